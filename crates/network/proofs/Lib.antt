@@ -1,0 +1,4 @@
+pub mod PathLaws
+pub mod PushLaws
+pub mod SameRooms
+pub mod RoundLaws
