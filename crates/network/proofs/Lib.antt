@@ -2,3 +2,9 @@ pub mod PathLaws
 pub mod PushLaws
 pub mod SameRooms
 pub mod RoundLaws
+pub mod Bound
+pub mod Counted
+pub mod CutLaws
+pub mod ArcLaws
+pub mod Tally
+pub mod FlowLaws
