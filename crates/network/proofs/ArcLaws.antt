@@ -12,20 +12,21 @@
 --   crosses R u           job u's arc leads into the set of nodes R
 --   cut-jobs              a cut that no wait crosses holds the capacities of the jobs that cross it
 --   cut-wait              a cut that a wait crosses holds its capacity
---   job-capacity-le       a job's capacity is at most S
+--   job-cost, job-member, job-total    a job's capacity in the document's network is at most its cost, its cost if it is of X, and S
+--   job-sink              T has none
 use mathlib.Core.Path.{_≡_, refl, ap, _∙_}
 use mathlib.Core.Logic.{_⊎_, inl, inr, _≢_}
 use mathlib.Core.Bool.{Bool, true, false, not}
-use Prim.Native.Nat.{ℕ, suc, _*_, _/_, _%_, _≤_, _<_}
+use Prim.Native.Nat.{ℕ, suc, _*_, _/_, _%_, _≤_, _<_, zero-le}
 use native.Mathlib.Decide.{ℕ-discrete}
 use native.Mathlib.Omega.{arith}
-use lib.Dec.{T, eqb, eqb→eq, not-T, T-not}
+use lib.Dec.{T, eqb, eqb→eq, eqb-refl, not-T, T-not}
 use Rattle.sums.specs.Tests.{both}
 use Rattle.sums.specs.Sum.{sum, gate}
 use Rattle.sums.proofs.TestLaws.{both-intro, both-left, both-right, tested, eqb-on, eqb-off}
-use Rattle.sums.proofs.SumLaws.{gate-on, gate-off, gate-le, sum-cong, sum-zero, sum-single, sum-pairs}
+use Rattle.sums.proofs.SumLaws.{gate-on, gate-off, gate-le, sum-cong, sum-zero, sum-term, sum-single, sum-pairs}
 use Rattle.sums.proofs.DoubleSums.{dsum, dsum-term}
-use Rattle.network.specs.Arcs.{inn, out, net}
+use Rattle.network.specs.Arcs.{inn, out, total, jobCapacity, net}
 use Rattle.network.proofs.CutLaws.{cut}
 
 pub node-cases : (n a : ℕ) → a < 2 * n → (u : ℕ) × (u < n) × ((a ≡ inn u) ⊎ (a ≡ out u))
@@ -150,3 +151,25 @@ module _ (arc : ℕ → ℕ → Bool) (job : ℕ → ℕ) (wide : ℕ) where
       let term : gate (both (not (R (out u))) (R (inn v))) (net arc job wide (out u) (inn v)) ≤ cut (2 * n) R (net arc job wide)
       = dsum-term (2 * n) (λ a b. gate (both (not (R a)) (R b)) (net arc job wide a b)) (out u) (inn v) (omega arith) (omega arith) in
       omega (arith, on, term, net-wait u v, gate-on (arc u v) wide f)
+
+-- ---- the jobs' capacities in the document's network
+
+pub job-cost : (x : ℕ → Bool) (τ : ℕ) (cost : ℕ → ℕ) (u : ℕ) → jobCapacity x τ cost u ≤ cost u
+unfolding jobCapacity
+job-cost x τ cost u = gate-le (both (x u) (not (eqb u τ))) (cost u)
+
+pub job-member : (x : ℕ → Bool) (τ : ℕ) (cost : ℕ → ℕ) (u : ℕ) → jobCapacity x τ cost u ≤ gate (x u) (cost u)
+unfolding jobCapacity
+job-member x τ cost u = fewer (x u) (not (eqb u τ)) (cost u)
+  where
+    fewer : (a b : Bool) (y : ℕ) → gate (both a b) y ≤ gate a y
+    fewer true b y = gate-le b y
+    fewer false b y = zero-le
+
+pub job-total : (n : ℕ) (x : ℕ → Bool) (τ : ℕ) (cost : ℕ → ℕ) (u : ℕ) → u < n → jobCapacity x τ cost u ≤ total n x cost
+unfolding total
+job-total n x τ cost u l = omega (arith, job-member x τ cost u, sum-term n (λ z. gate (x z) (cost z)) u l)
+
+pub job-sink : (x : ℕ → Bool) (τ : ℕ) (cost : ℕ → ℕ) → jobCapacity x τ cost τ ≡ 0
+unfolding jobCapacity
+job-sink x τ cost = gate-off (both (x τ) (not (eqb τ τ))) (cost τ) (λ t. T-not (eqb τ τ) (both-right (x τ) (not (eqb τ τ)) t) (eqb-refl τ))

@@ -11,11 +11,14 @@
 --   flow-conserved        so the two are equal
 --   into-sink             what flows into T is what was brought
 --   flow-start            at the start nothing flows
---   room-limit            no room is above the larger of the capacities
+--   room-limit            what bounds the capacities bounds the rooms
+--   capacity-conserved    in the document's network what flows into a job other than T flows out of it
+--   capacity-limit        and no room is above S + 1: nothing leaves 64 bits
 use mathlib.Core.Path.{_≡_, sym, _∙_, subst}
 use mathlib.Core.Logic.{_⊎_, inl, inr, _≢_}
 use mathlib.Core.Bool.{Bool, not}
-use Prim.Native.Nat.{ℕ, _+_, _*_, _≤_, _<_}
+use Prim.Native.Nat.{ℕ, suc, _+_, _*_, _≤_, _<_}
+use native.Mathlib.Nat.{le-refl}
 use native.Mathlib.Decide.{ℕ-discrete}
 use native.Mathlib.Omega.{arith}
 use lib.Dec.{T, eqb, eqb-refl, not-T, T-not}
@@ -26,10 +29,10 @@ use Rattle.sums.proofs.SumLaws.{gate-on, gate-off, gate-le, sum-cong, sum-zero,
 use Rattle.sums.proofs.DoubleSums.{dsum}
 use Rattle.network.specs.Rooms.{Room}
 use Rattle.network.specs.Rounds.{Rounds, none}
-use Rattle.network.specs.Arcs.{inn, out, net}
+use Rattle.network.specs.Arcs.{inn, out, within, total, jobCapacity, net, capacity}
 use Rattle.network.proofs.RoundLaws.{rounds-pair}
 use Rattle.network.proofs.CutLaws.{cut, Carried, rounds-carried}
-use Rattle.network.proofs.ArcLaws.{node-cases, net-job, net-in, net-wait, net-out}
+use Rattle.network.proofs.ArcLaws.{node-cases, net-job, net-in, net-wait, net-out, job-total}
 
 unfoldable pub flowOn : (ℕ → ℕ → Bool) → Room → ℕ → ℕ → ℕ
 flowOn arc r u v = gate (arc u v) (r (inn v) (out u))
@@ -188,7 +191,6 @@ module _ (arc : ℕ → ℕ → Bool) (job : ℕ → ℕ) (wide n τ : ℕ) (apa
 
 -- ---- bounds
 
--- at the start
 pub flow-start : (arc : ℕ → ℕ → Bool) (job : ℕ → ℕ) (wide n s t : ℕ) (r : Room) → ((u : ℕ) → u < n → T (arc u u) → ⊥)
     → Rounds (2 * n) s t (net arc job wide) 0 r → (u y : ℕ) → u < n → y < n → flowOn arc r u y ≡ 0
 unfolding flowOn
@@ -221,3 +223,24 @@ module _ (arc : ℕ → ℕ → Bool) (job : ℕ → ℕ) (wide n : ℕ) (apart 
 
   pub room-limit : (τ v : ℕ) (r : Room) → Flowing n τ (net arc job wide) r v → (a b : ℕ) → a < 2 * n → b < 2 * n → r a b + r b a ≤ limit
   room-limit τ v r flow a b la lb = omega (arith, flow .pair a b la lb, net-limit a b la lb)
+
+-- ---- the document's network
+
+module _ (w : ℕ → ℕ → Bool) (x : ℕ → Bool) (n τ : ℕ) (cost : ℕ → ℕ) (lτ : τ < n) (apart : (u : ℕ) → u < n → T (w u u) → ⊥) (k : ℕ) (r : Room)
+    (made : Rounds (2 * n) (out τ) (inn τ) (capacity w x n τ cost) k r) where
+  flowing : (v : ℕ) × Flowing n τ (net (within w x) (jobCapacity x τ cost) (suc (total n x cost))) r v
+  unfolding capacity
+  flowing = rounds-flowing n τ (net (within w x) (jobCapacity x τ cost) (suc (total n x cost))) k r lτ made
+
+  no-self : (u : ℕ) → u < n → T (within w x u u) → ⊥
+  unfolding within
+  no-self u l t = apart u l (both-left (w u u) (both (x u) (x u)) t)
+
+  pub capacity-conserved : (u : ℕ) → u < n → u ≢ τ → sum n (λ y. flowOn (within w x) r y u) ≡ sum n (λ y. flowOn (within w x) r u y)
+  capacity-conserved u l ne = flow-conserved (within w x) (jobCapacity x τ cost) (suc (total n x cost)) n τ no-self r (flowing .0) (flowing .1) u l ne
+
+  pub capacity-limit : (a b : ℕ) → a < 2 * n → b < 2 * n → r a b + r b a ≤ suc (total n x cost)
+  capacity-limit = room-limit (within w x) (jobCapacity x τ cost) (suc (total n x cost)) n no-self (suc (total n x cost)) few (le-refl (suc (total n x cost))) τ (flowing .0) r (flowing .1)
+    where
+      few : (u : ℕ) → u < n → jobCapacity x τ cost u ≤ suc (total n x cost)
+      few u l = omega (arith, job-total n x τ cost u l)

@@ -8,3 +8,9 @@ pub mod CutLaws
 pub mod ArcLaws
 pub mod Tally
 pub mod FlowLaws
+pub mod SetLaws
+pub mod Duality
+pub mod SinkSide
+pub mod BestLaws
+pub mod RingPaths
+pub mod Computed
