@@ -2,7 +2,8 @@
 -- (document 01, "The verdict": "There is exactly one such set; this is to be proved.").
 -- Assumes nothing.
 --
---   others-open              all jobs of X but T open every ring through T: "One always exists, since no job waits for itself."
+--   others w n τ x ..        all jobs of X but T
+--   others-open              they open every ring through T: "One always exists, since no job waits for itself."
 --   carried-small            so no more than S is ever brought
 --   sinkSet x n τ r u        the jobs that cross into the sink's side, computed; sink-exact: they are those exactly
 --   crossing-best            after the last round the jobs that cross into the sink's side are the set that the verdict takes
@@ -69,7 +70,7 @@ sink-exact x n τ r = record { sound = into; complete = back }
 -- ---- after the last round
 
 module _ (w : ℕ → ℕ → Bool) (n τ : ℕ) (x : ℕ → Bool) (exact : Exactly n (InX w n τ) x) (lτ : τ < n) (apart : (u : ℕ) → u < n → T (w u u) → ⊥) where
-  abbrev others : ℕ → Bool
+  abbrev pub others : ℕ → Bool
   others u = both (x u) (not (eqb u τ))
 
   pub others-open : Opens w n τ others

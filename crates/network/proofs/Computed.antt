@@ -2,10 +2,12 @@
 -- Assumes nothing.
 --
 --   ringed w n τ            whether a ring passes through T; ringed-right: it says so
---   amountOn r a p          the largest amount that every step of the path p from a allows; amount-most
+--   narrow r a b p          the least room on the path a → b → .. along p
+--   amountOn r a p          the largest amount that every step of the path p from a allows
 --   nextRoom N s t r        the rooms after one round; next-round
 --   run N s t f k r         f rounds more from r, fewer where no path is left: how many were made, k counted before, and the rooms then
 --   Ran N s t c a z         z is a number of rounds from c within the allowance a and the rooms then, with no path left or the allowance used up; run-right
+--   unreached-stuck         where the test of reaching fails, no path is left
 --   run-best                where no path is left, the jobs that cross into the sink's side are the set that the verdict takes
 use mathlib.Core.Path.{_≡_, refl, sym, subst}
 use mathlib.Core.Logic.{_⊎_, inl, inr, _≢_}
@@ -14,13 +16,11 @@ use mathlib.Core.List.{List, [], _∷_}
 use Prim.Native.Nat.{ℕ, zero, suc, _+_, _*_, _≤_, _<_, min, zero-le, suc-le-suc}
 use native.Mathlib.Nat.{not-suc-le-zero}
 use native.Mathlib.Omega.{arith}
-use lib.Dec.{T, lt→ltb, ltb→lt}
-use lib.ListN.{length}
+use lib.Dec.{T, ltb→lt}
 use Rattle.sums.specs.Tests.{both, any}
 use Rattle.sums.proofs.TestLaws.{both-intro, both-left, both-right, any-intro, any-elim}
-use Rattle.walks.specs.Walk.{Reaches}
 use Rattle.walks.proofs.Distance.{dist}
-use Rattle.walks.proofs.ReachLaws.{reach, reach-walk, walk-reach, reach-reaches}
+use Rattle.walks.proofs.ReachLaws.{reach, reach-walk, walk-reach}
 use Rattle.graph.specs.Rings.{Ring, RingThrough, some, none}
 use Rattle.network.specs.Rooms.{Room, step, push}
 use Rattle.network.specs.Paths.{Taken, Most}
@@ -58,7 +58,6 @@ ringed-right w n τ = go (any n (λ v. both (w τ v) (reach w n τ v))) refl
 
 -- ---- one round
 
--- the least room on the path a → b → ..
 unfoldable pub narrow : Room → ℕ → ℕ → List ℕ → ℕ
 narrow r a b [] = r a b
 narrow r a b (c ∷ p) = min (r a b) (narrow r b c p)

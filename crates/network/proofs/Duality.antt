@@ -7,10 +7,11 @@
 --   free-hit              a job of M from which T is so reached is T
 --   free-reaches          and then T is reached
 --   opens-shut, shut-opens    M opens every ring: T is not so reached from a job that T waits for
---   exits w n τ M u       u waits for a job from which T is so reached, computed
---   side w n τ M a        the nodes from which the sink is reached once M's job arcs are gone: in-nodes of free jobs, out-nodes of those with exits
+--   exits w n τ M u       u waits for a job from which T is so reached, computed; exits-intro, exits-elim
+--   side w n τ M a        the nodes from which the sink is reached once M's job arcs are gone; side-in, side-out: in-nodes of free jobs, out-nodes of those with exits
 --   side-cross            a job whose arc leads into the side is in M
---   side-cut, side-price  the side's capacity is that of the jobs that cross, at most M's price
+--   side-cut              the side's capacity is that of the jobs that cross
+--   side-terms, side-price    job by job and together, that is at most M's price
 --   weak                  no more is brought than the side's capacity
 --   weak-price            and so no more than M's price
 use mathlib.Core.Path.{_≡_, refl, sym, subst}

@@ -6,6 +6,7 @@
 --   upd-at, upd-other                   the changed room, and any other
 --   Spot a b x y                        the step x → y is the step a → b (ahead), or the step back, or aside from both; `spot` tells
 --   push1-ahead, push1-back, push1-aside    the rooms after d is pushed along a → b
+--   down-apart                          the ends of a step that leads one nearer differ
 --   lastOf a p                          where the path p from a ends; walk-last: for a walk to t that is t
 --   On a p x y                          x → y is a step of the path p from a
 --   on-in, on-near                      its ends are nodes, it leads one nearer

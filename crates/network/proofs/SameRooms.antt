@@ -3,7 +3,7 @@
 --
 --   Same N r q                    the same room for each step between nodes
 --   same-sym                      in either order
---   walk-same, reaches-same, stuck-same, allows-same, most-same, dist-same, taken-same    the same paths, amounts and distances
+--   walk-same, reaches-same, most-same, dist-same, taken-same    the same paths, amounts and distances
 --   push1-same, push-same         the same push gives the same rooms
 use mathlib.Core.Path.{_≡_, sym, subst}
 use mathlib.Core.Logic.{_⊎_, inl, inr}
@@ -17,7 +17,6 @@ use Rattle.walks.specs.Walk.{Walk, Reaches}
 use Rattle.walks.proofs.Distance.{near, dist, near-zero, near-zero-eq, near-in, near-keep, near-step, near-cases, dist-le, dist-near, dist-bound}
 use Rattle.network.specs.Rooms.{Room, step, upd, push1, push}
 use Rattle.network.specs.Paths.{Taken, Allows, Most}
-use Rattle.network.specs.Rounds.{Stuck}
 
 abbrev pub Same : ℕ → Room → Room → Type 0
 Same N r q = (a b : ℕ) → a < N → b < N → r a b ≡ q a b
@@ -63,9 +62,6 @@ module _ (N : ℕ) (r q : Room) (same : Same N r q) where
 module _ (N : ℕ) (r q : Room) (same : Same N r q) where
   pub dist-same : (t a : ℕ) → dist (step r) N t a ≡ dist (step q) N t a
   dist-same t a = omega (arith, dist-same-le N r q same t a, dist-same-le N q r (same-sym N r q same) t a)
-
-  pub stuck-same : (s t : ℕ) → s < N → Stuck N s t r → Stuck N s t q
-  stuck-same s t l k p w = k p (walk-same N q r (same-sym N r q same) s t p l w)
 
   pub most-same : (st : ℕ → ℕ → Bool) (a t : ℕ) (p : List ℕ) (d : ℕ) → a < N → Walk st N a t p → Most r a p d → Most q a p d
   most-same st a t p d l w m = record {

@@ -9,7 +9,7 @@
 --   left-count-exists, left-count-unique   a set leaves some number of jobs, and only one
 --   x-self, x-next           T is in X, and so is a job that one of X waits for and that reaches T
 --   within-intro, within-wait    a wait within X
-use mathlib.Core.Path.{_≡_, refl, ap}
+use mathlib.Core.Path.{_≡_, refl, sym, ap, _∙_}
 use mathlib.Core.Bool.{Bool, true, false, not}
 use Prim.Native.Nat.{ℕ, _≤_, _<_, zero-le}
 use native.Mathlib.Nat.{le-refl}
@@ -98,13 +98,11 @@ pub left-count-exists : (w : ℕ → ℕ → Bool) (n τ : ℕ) (M : ℕ → Boo
 left-count-exists w n τ M lτ = record { left = still w n τ M; exact = still-exact w n τ M lτ; number = refl }
 
 pub left-count-unique : (w : ℕ → ℕ → Bool) (n τ : ℕ) (M : ℕ → Bool) (j k : ℕ) → LeftCount w n τ M j → LeftCount w n τ M k → j ≡ k
-left-count-unique w n τ M j k a b = omega (
-  arith,
-  a .number,
-  b .number,
-  count-mono n (a .left) (b .left) (λ u l t. b .exact .complete u l (a .exact .sound u l t)),
-  count-mono n (b .left) (a .left) (λ u l t. a .exact .complete u l (b .exact .sound u l t)),
-)
+unfolding count
+left-count-unique w n τ M j k a b =
+    sym (a .number)
+    ∙ sum-cong n _ _ (λ u l. ap (λ (c : Bool). gate c 1) (exactly-unique n (Left w n τ M) (a .left) (b .left) (a .exact) (b .exact) u l))
+    ∙ b .number
 
 -- ---- X
 

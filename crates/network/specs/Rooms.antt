@@ -1,7 +1,8 @@
 -- The state of a network: the room of each step from node to node, that is, what can still be pushed that way.
 -- Document 01, "The network and its rounds": "A step may follow an arc with capacity left, or go back along an arc with flow above zero."
 -- At the start the room of a step is the capacity of its arc. A push takes from the room that way and gives to the room back,
--- so forward along an arc the room is the capacity left, and back along it the flow on it (`Flow.rooms-of` in proofs/ shows it for any rounds).
+-- so forward along an arc the room is the capacity left, and back along it the flow on it (`rounds-pair` in proofs/RoundLaws.antt: after any rounds
+-- the two add up to the capacities; `wait-room` and `job-room` in proofs/FlowLaws.antt say it of waits and jobs).
 --
 --   Room               the rooms of all steps: r a b from node a to node b
 --   step r a b         the step may be taken: there is room
