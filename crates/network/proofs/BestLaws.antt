@@ -4,7 +4,7 @@
 --
 --   others w n τ x ..        all jobs of X but T
 --   others-open              they open every ring through T: "One always exists, since no job waits for itself."
---   carried-small            so no more than S is ever brought
+--   carried-small            so no more than S is ever pushed
 --   sinkSet x n τ r u        the jobs that cross into the sink's side, computed; sink-exact: they are those exactly
 --   crossing-best            after the last round the jobs that cross into the sink's side are the set that the verdict takes
 --   best-crossing            and every set that the verdict may take is that one
@@ -31,7 +31,7 @@ use Rattle.network.proofs.ArcLaws.{job-cost, job-member, job-sink}
 use Rattle.network.proofs.Tally.{capacity-counted}
 use Rattle.network.proofs.FlowLaws.{flowOn, Flowing, rounds-flowing, into-sink}
 use Rattle.network.proofs.SetLaws.{count-mono, inX, inx-exact, still, left-count-exists, x-self, x-next, within-wait}
-use Rattle.network.proofs.Duality.{free, free-hit, free-reaches, shut-opens, weak-price}
+use Rattle.network.proofs.Duality.{free, free-hit, free-reaches, shut-opens, opens-price}
 use Rattle.network.proofs.SinkSide.{Crossing, crossing-price, crossing-opens, crossing-left, crossing-only}
 
 -- ---- computed: the jobs that cross into the sink's side
@@ -92,7 +92,7 @@ module _ (w : ℕ → ℕ → Bool) (n τ : ℕ) (x : ℕ → Bool) (exact : Exa
     unfolding total price jobCapacity
     carried-small r v car =
         let a : v ≤ sum n (jobCapacity x τ cost)
-        = weak-price w n τ (within w x) (jobCapacity x τ cost) (suc (total n x cost)) (within-wait w x) r v car lτ others others-open cost (λ u l. job-cost x τ cost u) in
+        = opens-price w n τ (within w x) (jobCapacity x τ cost) (suc (total n x cost)) (within-wait w x) r v car lτ others others-open cost (λ u l. job-cost x τ cost u) in
         let b : sum n (jobCapacity x τ cost) ≤ sum n (λ u. gate (x u) (cost u)) = sum-mono n _ _ (λ u l. job-member x τ cost u) in
         omega (arith, a, b)
 
@@ -115,7 +115,7 @@ module _ (w : ℕ → ℕ → Bool) (n τ : ℕ) (x : ℕ → Bool) (exact : Exa
         C-cheapest L o = omega (
           arith,
           C-price,
-          weak-price w n τ (within w x) (jobCapacity x τ cost) (suc (total n x cost)) (within-wait w x) r (flowing .0) (flowing .1 .carried) lτ L o cost (λ u l. job-cost x τ cost u),
+          opens-price w n τ (within w x) (jobCapacity x τ cost) (suc (total n x cost)) (within-wait w x) r (flowing .0) (flowing .1 .carried) lτ L o cost (λ u l. job-cost x τ cost u),
         )
 
         pub crossing-best : Best w n τ cost C

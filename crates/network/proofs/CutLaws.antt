@@ -1,13 +1,13 @@
 -- Cuts: the room of all steps that lead into a set of nodes. One equation holds for every set and any rounds; duality, conservation and the tie rule are read off it
--- by choosing the set (document 01 asks for "the set's cost", "the flow on the wait from u to v").
+-- by choosing the set. Document 01 has no cuts: they stand between its rounds and its sets of jobs.
 -- Assumes nothing.
 --
 --   cut N R r             the room of the steps from outside the set R into R
 --   cut-push1, cut-push   how a push changes it
---   Carried N s t c r v   v was brought from s to t: the room across each cut is short of the capacity by what it carries of v
+--   Carried N s t c r v   v was pushed from s to t: the room across each cut is short of the capacity by what it carries of v
 --   rounds-carried        so it is after any rounds
 --   cut-shut              no room across: no walk leads into R
---   carried-cut           where no room is left into R, which has t and not s, what was brought is R's capacity
+--   carried-cut           where no room is left into R, which has t and not s, what was pushed is R's capacity
 use mathlib.Core.Path.{_≡_, refl, sym, ap, subst}
 use mathlib.Core.Logic.{_⊎_, inl, inr, _≢_}
 use mathlib.Core.Bool.{Bool, true, false, not}

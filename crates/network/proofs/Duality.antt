@@ -1,4 +1,5 @@
--- No set that opens every ring through T costs less than what was brought to T's in-node: weak duality.
+-- No set that opens every ring through T costs less than what was pushed to T's in-node: weak duality
+-- (document 01, "The verdict": "the sets of jobs of X, without T, whose abort opens every ring through T. .. Take the least total cost.").
 -- Over any network whose waits are waits of the snapshot and whose jobs' capacities are no larger than their costs.
 -- Assumes nothing.
 --
@@ -12,8 +13,8 @@
 --   side-cross            a job whose arc leads into the side is in M
 --   side-cut              the side's capacity is that of the jobs that cross
 --   side-terms, side-price    job by job and together, that is at most M's price
---   weak                  no more is brought than the side's capacity
---   weak-price            and so no more than M's price
+--   side-carried          no more is pushed than the side's capacity
+--   opens-price           and so no more than M's price
 use mathlib.Core.Path.{_≡_, refl, sym, subst}
 use mathlib.Core.Logic.{_⊎_, inl, inr, _≢_}
 use mathlib.Core.Bool.{Bool, true, false, not}
@@ -153,10 +154,10 @@ module _ (w : ℕ → ℕ → Bool) (n τ : ℕ) (arc : ℕ → ℕ → Bool) (j
       omega (arith, side-cut M, m)
 
   module _ (r : Room) (v : ℕ) (car : Carried (2 * n) (out τ) (inn τ) (net arc job wide) r v) (lτ : τ < n) (M : ℕ → Bool) (opens : Opens w n τ M) where
-    pub weak : cut (2 * n) (side w n τ M) r + v ≡ cut (2 * n) (side w n τ M) (net arc job wide)
-    weak = carried-cut (2 * n) (out τ) (inn τ) (net arc job wide) r v car (side w n τ M)
+    pub side-carried : cut (2 * n) (side w n τ M) r + v ≡ cut (2 * n) (side w n τ M) (net arc job wide)
+    side-carried = carried-cut (2 * n) (out τ) (inn τ) (net arc job wide) r v car (side w n τ M)
         (subst T (sym (side-in w n τ M τ)) (reach-self (avoid w M) n τ lτ))
         (λ t. let k = exits-elim w n τ M τ (subst T (side-out w n τ M τ) t) in opens-shut w n τ M opens lτ (k .0) (k .2) (k .3))
 
-    pub weak-price : (cost : ℕ → ℕ) → ((u : ℕ) → u < n → job u ≤ cost u) → v ≤ price n cost M
-    weak-price cost few = omega (arith, weak, side-price M cost few)
+    pub opens-price : (cost : ℕ → ℕ) → ((u : ℕ) → u < n → job u ≤ cost u) → v ≤ price n cost M
+    opens-price cost few = omega (arith, side-carried, side-price M cost few)

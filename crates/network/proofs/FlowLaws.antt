@@ -3,13 +3,13 @@
 -- Assumes nothing.
 --
 --   flowOn arc r u v      the flow on the wait from u to v, 0 where there is no arc
---   row-kept, row-sink    what leaves a node, all steps together: the same as at the start but for the sink, which has what was brought more
---   Flowing               rooms with some amount brought from T's out-node to T's in-node; rounds-flowing: so they are after any rounds
+--   row-kept, row-sink    what leaves a node, all steps together: the same as at the start, and at the sink more by what was pushed
+--   Flowing               rooms with some amount pushed from T's out-node to T's in-node; rounds-flowing: so they are after any rounds
 --   wait-room             room along a wait and flow on it add up to its capacity
 --   job-room              room along a job's arc and room back, the flow through the job, add up to its capacity
 --   into-job, from-job    what flows into a job other than T, and what flows out of it, is what flows through it
 --   flow-conserved        so the two are equal
---   into-sink             what flows into T is what was brought
+--   into-sink             what flows into T is what was pushed
 --   flow-start            at the start nothing flows
 --   room-limit            what bounds the capacities bounds the rooms
 --   capacity-conserved    in the document's network what flows into a job other than T flows out of it
@@ -76,7 +76,7 @@ module _ (N s t : ℕ) (c r : Room) (v : ℕ) (car : Carried N s t c r v) where
 pub record Flowing (n τ : ℕ) (c r : Room) (v : ℕ) : Type 0 where
   -- the room of a step and of the step back add up to their capacities
   pub pair : (a b : ℕ) → a < 2 * n → b < 2 * n → r a b + r b a ≡ c a b + c b a
-  -- v was brought
+  -- v was pushed
   pub carried : Carried (2 * n) (out τ) (inn τ) c r v
 
 pub rounds-flowing : (n τ : ℕ) (c : Room) (k : ℕ) (r : Room) → τ < n → Rounds (2 * n) (out τ) (inn τ) c k r → (v : ℕ) × Flowing n τ c r v

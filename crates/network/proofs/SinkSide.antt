@@ -1,10 +1,11 @@
--- Where no path is left, the jobs whose arcs lead into the sink's side open every ring through T at the price of what was brought: strong duality.
--- Every other set of that price leaves what they leave, and one that leaves no more is the same set.
--- Over any costs and any capacity of waits that is above what was brought.
+-- Where no path is left, the jobs whose arcs lead into the sink's side open every ring through T at the price of what was pushed: strong duality.
+-- Every other set of that price leaves what they leave, and one that leaves no more is the same set. (Document 01 lists "Reading the cut from T's waiting side
+-- (the source)" among the slips; the tie is why.)
+-- Over any costs and any capacity of waits that is above what was pushed.
 -- Assumes nothing.
 --
 --   Crossing r x n τ u    a job of X other than T from whose out-node the sink is reached and from whose in-node it is not
---   crossing-price        together they cost what was brought
+--   crossing-price        together they cost what was pushed
 --   crossing-opens        they open every ring through T
 --   crossing-left         what they leave, every set that opens and costs no more leaves
 --   crossing-only         and where it leaves no more jobs, it is the same set
@@ -31,7 +32,7 @@ use Rattle.network.specs.Sets.{Exactly, Opens, price, avoid, Left, LeftC
 use Rattle.network.proofs.CutLaws.{cut, Carried, carried-cut, cut-shut}
 use Rattle.network.proofs.ArcLaws.{crosses, cut-jobs, cut-wait, job-cost}
 use Rattle.network.proofs.SetLaws.{count-tight, x-self, x-next, within-intro, within-wait}
-use Rattle.network.proofs.Duality.{free, free-hit, free-reaches, shut-opens, side, side-in, side-out, exits-elim, side-cross, side-cut, side-terms, weak, side-price}
+use Rattle.network.proofs.Duality.{free, free-hit, free-reaches, shut-opens, side, side-in, side-out, exits-elim, side-cross, side-cut, side-terms, side-carried, side-price}
 
 pub record Crossing (r : Room) (x : ℕ → Bool) (n τ u : ℕ) : Type 0 where
   pub member : T (x u)
@@ -70,11 +71,11 @@ module _ (w : ℕ → ℕ → Bool) (n τ : ℕ) (x : ℕ → Bool) (exact : Exa
       go a b la (yes h) = gate-off (both (not (R a)) (R b)) (r a b) (λ t.
           T-not (R a) (both-left (not (R a)) (R b) t) (reach-step (step r) (2 * n) (inn τ) a b la (lt→ltb 0 (r a b) h) (both-right (not (R a)) (R b) t)))
 
-  -- what was brought is the capacity of the cut
+  -- what was pushed is the capacity of the cut
   cut-value : v ≡ cut (2 * n) R (net (within w x) (jobCapacity x τ cost) wide)
   cut-value = omega (arith, carried-cut (2 * n) (out τ) (inn τ) (net (within w x) (jobCapacity x τ cost) wide) r v car R R-sink R-source, no-room)
 
-  -- no wait leads into R: it holds more than was brought
+  -- no wait leads into R: it holds more than was pushed
   closed : (u y : ℕ) → u < n → y < n → T (within w x u y) → T (R (inn y)) → T (R (out u))
   closed u y lu ly j h = go (tested (R (out u)))
     where
@@ -142,14 +143,14 @@ module _ (w : ℕ → ℕ → Bool) (n τ : ℕ) (x : ℕ → Bool) (exact : Exa
         let k = x-next w n τ x exact τ y lτ l m s (free-reaches w n τ C y f) in
         R-source (closed τ y lτ l (within-intro w x τ y s m k) (inner-free y k f)))
 
-    -- ---- against another set that opens and costs no more than was brought
+    -- ---- against another set that opens and costs no more than was pushed
 
     module _ (L : ℕ → Bool) (opens : Opens w n τ L) (cheap : price n cost L ≤ v) where
       S : ℕ → Bool
       S = side w n τ L
 
       tight : cut (2 * n) (side w n τ L) r + v ≡ cut (2 * n) (side w n τ L) (net (within w x) (jobCapacity x τ cost) wide)
-      tight = weak w n τ (within w x) (jobCapacity x τ cost) wide (within-wait w x) r v car lτ L opens
+      tight = side-carried w n τ (within w x) (jobCapacity x τ cost) wide (within-wait w x) r v car lτ L opens
 
       R-in-S : (a : ℕ) → T (R a) → T (S a)
       unfolding S
@@ -201,7 +202,7 @@ module _ (w : ℕ → ℕ → Bool) (n τ : ℕ) (x : ℕ → Bool) (exact : Exa
             go (inr f) = side-cross w n τ L u l (both-intro (not (side w n τ L (inn u))) (side w n τ L (out u))
                 (not-T (side w n τ L (inn u)) (λ h. f (subst T (side-in w n τ L u) h))) (R-in-S (out u) (e .3)))
 
-        -- each job of L has its arc across: otherwise L would cost more than was brought
+        -- each job of L has its arc across: otherwise L would cost more than was pushed
         across : (u : ℕ) → u < n → T (L u) → T (crosses (side w n τ L) u)
         unfolding price
         across u l m =

@@ -1,4 +1,5 @@
--- The bound on rounds: "at most 2n(m + n) rounds", n the jobs and m the waits of the whole snapshot, and the theorem on the count in full.
+-- The bound on rounds, 2n(m + n) with n the jobs and m the waits of the whole snapshot, and the theorem on the count in full
+-- (document 01: "The count in the result is the number of rounds made by this rule").
 -- Over any arcs between jobs that are waits, any job capacities and any capacity of waits.
 -- Assumes nothing.
 --
