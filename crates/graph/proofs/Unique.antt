@@ -1,7 +1,7 @@
 -- Two results that meet the statement of a public function are equal.
 -- Assumes nothing.
 --
---   reach-unique, turn-unique, on-rings-unique, ring-through-unique, row-unique   of the function of that name
+--   rows-known-unique, reach-unique, turn-unique, on-rings-unique, ring-through-unique, row-unique   of the function of that name
 --   reach-away                                                                    the jobs of `reach` are those a definite number of waits away
 use mathlib.Core.Path.{_≡_, refl, sym, _∙_}
 use mathlib.Core.Bool.{Bool, true, false}
@@ -14,11 +14,18 @@ use Rattle.bits.specs.Mask.{Has, MaskOf}
 use Rattle.bits.proofs.Masks.{mask-unique}
 use Rattle.walks.specs.Walk.{Reaches, Away}
 use Rattle.walks.proofs.ReachLaws.{reaches-away}
-use Rattle.graph.specs.Waits.{waits}
+use Rattle.graph.specs.Waits.{waits, Known}
+use Rattle.graph.specs.Waits.Known.{all, stray}
 use Rattle.graph.specs.Rings.{InX, RingThrough}
 use Rattle.graph.specs.Rings.RingThrough.{some, none}
 use Rattle.graph.specs.Turned.{Turned}
 use Rattle.graph.specs.Pools.{WaitsFor}
+
+pub rows-known-unique : (rows : List ℕ) (a b : Bool) → Known rows a → Known rows b → a ≡ b
+rows-known-unique rows true true p q = refl
+rows-known-unique rows true false (all p) (stray j i w l) = absurd (omega (arith, p j i w, l))
+rows-known-unique rows false true (stray j i w l) (all p) = absurd (omega (arith, p j i w, l))
+rows-known-unique rows false false p q = refl
 
 pub reach-unique : (rows : List ℕ) (from a b : ℕ) → MaskOf (Reaches (waits rows) (length rows) from) a → MaskOf (Reaches (waits rows) (length rows) from) b → a ≡ b
 reach-unique rows from a b = mask-unique _ a b

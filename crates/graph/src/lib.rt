@@ -1,16 +1,32 @@
 // The graph layer: who waits for whom, whom a job reaches, and the rings through a job.
 //
-// `reach` gives exactly the jobs that a job reaches along waits, `turn` for each job exactly those that wait for it,
+// `rows_known` says whether the rows name only jobs that are there, `reach` gives exactly the jobs that a job reaches along waits, `turn` for each job exactly those that wait for it,
 // `on_rings` exactly the document's X, `ring_through` whether a ring passes through a job,
 // and `row` exactly the jobs that a job waits for in a table of pool states.
 ghost use Prim.Native.Nat.{_<_, _≤_};
 ghost use lib.ListN.{length};
 ghost use Rattle.bits.specs.Mask.{MaskOf};
 ghost use Rattle.walks.specs.Walk.{Reaches};
-ghost use Rattle.graph.specs.Waits.{waits, Jobs};
+ghost use Rattle.graph.specs.Waits.{waits, Jobs, Known};
 ghost use Rattle.graph.specs.Rings.{InX, RingThrough};
 ghost use Rattle.graph.specs.Turned.{Masks, Added, Turned};
 ghost use Rattle.graph.specs.Pools.{Table, ActiveAt, WaitsFor};
+
+// Whether no row names a job past the end of the list.
+pub fn rows_known(rows: &[u64]) -> bool
+    requires { ⌜ length (now rows) ≤ 64 ⌝ }
+    ensures { λ r. ⌜ Known (now (rows .entry)) r ⌝ }
+{
+    let n = rows.len();
+    let mut u = 0;
+    while u < n {
+        if (rows[u] >> (n - 1)) >> 1 != 0 {
+            return false;
+        }
+        u += 1;
+    }
+    true
+}
 
 // The jobs that `from` reaches by no or more waits.
 pub fn reach(rows: &[u64], from: usize) -> u64
