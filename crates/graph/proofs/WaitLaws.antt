@@ -4,9 +4,10 @@
 --   waits-has, has-waits   a wait and the digit of the row
 --   waits-below            past the end of the list nobody waits
 --   Fitting rows k         the invariant of `rows_known`; fitting-start, fitting-turn, fitting-stray, fitting-end
+--   known-jobs             what a call of it with the answer true gives
 use mathlib.Core.Path.{_≡_, sym, ap, _∙_, subst}
 use mathlib.Core.List.{List}
-use mathlib.Core.Bool.{true, false}
+use mathlib.Core.Bool.{Bool, true, false}
 use Prim.Native.Nat.{ℕ, _+_, _-_, _/_, _^_, _<_, _≤_, zero-le}
 use native.Mathlib.Omega.{arith}
 use native.Mathlib.Decide.{decLt}
@@ -17,7 +18,7 @@ use Rattle.bits.specs.Mask.{bit, Has}
 use Rattle.bits.proofs.Digits.{bit-zero}
 use Rattle.bits.proofs.Masks.{has-test, test-has}
 use Rattle.bits.proofs.Lowest.{shifted-none, shifted-some}
-use Rattle.graph.specs.Waits.{waits, Known}
+use Rattle.graph.specs.Waits.{waits, Jobs, Known}
 use Rattle.graph.specs.Waits.Known.{all, stray}
 
 pub waits-has : (rows : List ℕ) (j i : ℕ) → T (waits rows j i) → Has (getD rows j 0) i
@@ -66,3 +67,8 @@ fitting-stray rows k l small ne =
 
 pub fitting-end : (rows : List ℕ) (k : ℕ) → Fitting rows k → length rows ≤ k → Known rows true
 fitting-end rows k F l = all (λ j i w. F .known j i (omega (arith, waits-below rows j i w)) w)
+
+-- where all is known, the rows are an accepted list of jobs
+pub known-jobs : (rows : List ℕ) (b : Bool) → length rows ≤ 64 → Known rows b → b ≡ true → Jobs rows
+known-jobs rows true few (all k) e = record { few = few; known = k }
+known-jobs rows false few k e = absurd (subst T (sym e) tt)
