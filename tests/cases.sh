@@ -1,0 +1,24 @@
+#!/bin/sh
+# What the program of crates/cases must write was worked out by the second program, never by itself:
+# this holds crates/cases/stdout against what the second program says of crates/cases/stdin today.
+#
+#   sh tests/cases.sh           compares
+#   sh tests/cases.sh --write   writes crates/cases/stdout anew
+set -eu
+cd "$(dirname "$0")/.."
+folder=$(mktemp -d)
+trap 'rm -rf "$folder"' EXIT
+"${CC:-cc}" -std=c11 -O2 -o "$folder/second" tests/second/*.c
+
+# lines LETTER MODE: the second program's answers to the lines of that letter, in the small digits of the proved program.
+lines() {
+    sed -n "s/^$1 //p" crates/cases/stdin | "$folder/second" "$2" | tr A-F a-f | sed "s/^/$1 /"
+}
+
+lines G graph > "$folder/stdout"
+if [ "${1:-}" = --write ]; then
+    cp "$folder/stdout" crates/cases/stdout
+elif ! diff "$folder/stdout" crates/cases/stdout; then
+    echo "crates/cases/stdout is not what the second program says" >&2
+    exit 1
+fi
