@@ -1,0 +1,144 @@
+-- The whole statement of a verdict call: two results that meet it are equal, and what it says of rounds (demand 3).
+-- Assumes nothing.
+--
+--   flows-unique      the work list after k rounds is one
+--   number-unique     an outcome is known by its number
+--   call-unique       two results of a call are equal, and so are the work lists; on all inputs
+--   call-demand       for an input without faults there is one number of rounds, at most 2n(m + n), and what an allowance gives
+use mathlib.Core.Path.{_≡_, refl, sym, ap, _∙_, subst}
+use mathlib.Core.Logic.{_≢_}
+use mathlib.Core.Bool.{Bool, true, false}
+use mathlib.Core.List.{List}
+use Prim.Native.Nat.{ℕ, _+_, _*_, _/_, _%_, _<_, _≤_}
+use native.Mathlib.Nat.{div-add-mod', div-lt-iff-lt-mul, mod-lt}
+use native.Mathlib.Omega.{arith}
+use native.Mathlib.Decide.{ℕ-discrete, decLt}
+use lib.Arith.{digits-lt}
+use lib.Dec.{T}
+use lib.ListN.{length, getD}
+use lib.Seq.{ext-getD}
+use Rattle.sums.specs.Sum.{gate}
+use Rattle.graph.specs.Waits.{waits}
+use Rattle.graph.specs.Rings.{InX}
+use Rattle.network.specs.Rooms.{Room}
+use Rattle.network.specs.Rounds.{Rounds}
+use Rattle.network.specs.Arcs.{inn, out, within, waitCount}
+use Rattle.network.specs.Sets.{Exactly}
+use Rattle.network.proofs.RoundLaws.{rounds-unique}
+use Rattle.network.proofs.SetLaws.{exactly-unique, inX}
+use Rattle.flow.specs.Accepted.{costOf}
+use Rattle.verdict.specs.declared.Outcome.{Outcome}
+use Rattle.verdict.specs.declared.Outcome.the-variants.{Wait, AbortT, AbortOthers, NotYet}
+use Rattle.verdict.specs.declared.Decision.{Decision}
+use Rattle.verdict.specs.declared.Answer.{Answer}
+use Rattle.verdict.specs.declared.Answer.the-variants.{Refused, Decided}
+use Rattle.verdict.specs.Refusals.{Refusal, Faultless}
+use Rattle.verdict.specs.Answers.{number, After, Verdict}
+use Rattle.verdict.specs.Called.{Flows, Called}
+use Rattle.verdict.specs.Called.Called.{refuses, answers}
+use Rattle.verdict.proofs.RefusalLaws.{refusal-unique, refusal-faultless, faultless-job, faultless-apart, faultless-positive}
+use Rattle.verdict.proofs.AnswerLaws.{after-rounds, known, verdict-unique, Demand, verdict-demand}
+
+-- a place below n × n is that of a pair of jobs
+grid : (n i : ℕ) → i < n * n → (u : ℕ) × (v : ℕ) × (u < n) × (v < n) × (i ≡ u * n + v)
+grid n i l = go (decLt 0 n)
+  where
+    go : Dec (0 < n) → (u : ℕ) × (v : ℕ) × (u < n) × (v < n) × (i ≡ u * n + v)
+    go (yes p) = (i / n, i % n, div-lt-iff-lt-mul p .1 l, mod-lt i p, sym (div-add-mod' i n))
+    go (no p) = let e : n ≡ 0 = omega arith in absurd (omega (arith, subst (λ (z : ℕ). i < z * z) e l))
+
+module _ (rows costs : List ℕ) (τ : ℕ) where
+  pub flows-unique : (j k : ℕ) (before a b : List ℕ) → τ < length rows → j ≡ k → Flows rows costs τ j before a → Flows rows costs τ k before b → a ≡ b
+  unfolding within
+  flows-unique j k before a b lτ e F G = ext-getD 0 a b (F .size ∙ sym (G .size)) (λ i l. go i (decLt i (length rows * length rows)))
+    where
+      same-x : (u : ℕ) → u < length rows → F .rounds .x u ≡ G .rounds .x u
+      same-x = exactly-unique (length rows) (InX (waits rows) (length rows) τ) (F .rounds .x) (G .rounds .x) (F .rounds .exact) (G .rounds .exact)
+
+      same-room : (p q : ℕ) → p < 2 * length rows → q < 2 * length rows → F .room p q ≡ G .room p q
+      same-room = rounds-unique (2 * length rows) (out τ) (inn τ) (known (waits rows) (length rows) τ (costOf costs) lτ) k (F .room) (G .room) (omega arith)
+          (subst (λ (z : ℕ). Rounds (2 * length rows) (out τ) (inn τ) (known (waits rows) (length rows) τ (costOf costs) lτ) z (F .room)) e (after-rounds (waits rows) (length rows) τ (costOf costs) lτ j (F .room) (F .rounds)))
+          (after-rounds (waits rows) (length rows) τ (costOf costs) lτ k (G .room) (G .rounds))
+
+      go : (i : ℕ) → Dec (i < length rows * length rows) → getD a i 0 ≡ getD b i 0
+      go i (yes l) =
+          let g = grid (length rows) i l in
+          let u = g .0 in let v = g .1 in
+          ap (λ (z : ℕ). getD a z 0) (g .4) ∙ F .flow u v (g .2) (g .3) ∙ same u v (g .2) (g .3) ∙ sym (G .flow u v (g .2) (g .3)) ∙ ap (λ (z : ℕ). getD b z 0) (sym (g .4))
+        where
+          same : (u v : ℕ) → u < length rows → v < length rows
+              → gate (within (waits rows) (F .rounds .x) u v) (F .room (inn v) (out u)) ≡ gate (within (waits rows) (G .rounds .x) u v) (G .room (inn v) (out u))
+          same u v lu lv =
+              let p = same-x u lu in
+              let q = same-x v lv in
+              let r : F .room (inn v) (out u) ≡ G .room (inn v) (out u) = same-room (inn v) (out u) (omega arith) (omega arith) in
+              cc (p, q, r)
+      go i (no l) = F .rest i (omega arith) ∙ sym (G .rest i (omega arith))
+
+-- ---- the outcome
+
+pub number-unique : (a b : Outcome) → number a ≡ number b → a ≡ b
+number-unique Wait Wait e = refl
+number-unique Wait AbortT e = absurd (omega arith)
+number-unique Wait AbortOthers e = absurd (omega arith)
+number-unique Wait NotYet e = absurd (omega arith)
+number-unique AbortT Wait e = absurd (omega arith)
+number-unique AbortT AbortT e = refl
+number-unique AbortT AbortOthers e = absurd (omega arith)
+number-unique AbortT NotYet e = absurd (omega arith)
+number-unique AbortOthers Wait e = absurd (omega arith)
+number-unique AbortOthers AbortT e = absurd (omega arith)
+number-unique AbortOthers AbortOthers e = refl
+number-unique AbortOthers NotYet e = absurd (omega arith)
+number-unique NotYet Wait e = absurd (omega arith)
+number-unique NotYet AbortT e = absurd (omega arith)
+number-unique NotYet AbortOthers e = absurd (omega arith)
+number-unique NotYet NotYet e = refl
+
+-- ---- the call
+
+-- the decision of an answer
+decisionOf : Decision → Answer → Decision
+decisionOf d (Refused k) = d
+decisionOf d (Decided e) = e
+
+decided-unique : (d e : Decision) → Decided d ≡ Decided e → d ≡ e
+unfolding decisionOf
+decided-unique d e q = ap (decisionOf d) q
+
+module _ (rows costs : List ℕ) (τ : ℕ) where
+  -- two decisions on an input without faults
+  decision-unique : (a work : ℕ) (d e : Decision) → Faultless rows costs τ work
+      → Verdict (waits rows) (length rows) τ (costOf costs) a (number (d .outcome)) (d .price) (d .rounds) (d .victims)
+      → Verdict (waits rows) (length rows) τ (costOf costs) a (number (e .outcome)) (e .price) (e .rounds) (e .victims)
+      → d ≡ e
+  decision-unique a work d e f v w =
+      let q = verdict-unique (waits rows) (length rows) τ (costOf costs) (faultless-job rows costs τ work f) (λ u l t. faultless-apart rows costs τ work f u t) (faultless-positive rows costs τ work f)
+      a (number (d .outcome)) (d .price) (d .rounds) (d .victims) (number (e .outcome)) (e .price) (e .rounds) (e .victims) v w in
+      let o = number-unique (d .outcome) (e .outcome) (q .0) in
+      λ i. record { outcome = o i; price = q .1 i; rounds = q .2 i; victims = q .3 i }
+
+  pub call-unique : (a : ℕ) (before : List ℕ) (x y : Answer) (after after′ : List ℕ)
+      → Called rows costs τ a before x after → Called rows costs τ a before y after′ → (x ≡ y) × (after ≡ after′)
+  call-unique a before x y after after′ (refuses j r) (refuses k s) = (ap Refused (refusal-unique rows costs τ (length before) j k r s), refl)
+  call-unique a before x y after after′ (refuses j r) (answers e after″ f w G) = absurd (refusal-faultless rows costs τ (length before) j r f)
+  call-unique a before x y after after′ (answers d after″ f v F) (refuses k s) = absurd (refusal-faultless rows costs τ (length before) k s f)
+  call-unique a before x y after after′ (answers d after″ f v F) (answers e after‴ g w G) =
+      let q = decision-unique a (length before) d e f v w in
+      (ap Decided q, flows-unique rows costs τ (d .rounds) (e .rounds) before after after′ (faultless-job rows costs τ (length before) f) (ap (λ (z : Decision). z .rounds) q) F G)
+
+  -- DEMAND 3, over the call's statement: "For n jobs and m waits there is one number of rounds, at most 2n(m + n)"
+  pub call-demand : (before : List ℕ) → Faultless rows costs τ (length before)
+      → (K : ℕ) × (K ≤ 2 * length rows * (waitCount (waits rows) (length rows) + length rows))
+      × ((a : ℕ) (d : Decision) (after : List ℕ) → Called rows costs τ a before (Decided d) after → Demand K a (number (d .outcome)) (d .rounds))
+  call-demand before f =
+      let z = verdict-demand (waits rows) (length rows) τ (costOf costs) (faultless-job rows costs τ (length before) f) in
+      (z .0, z .1, λ a d after c. each (z .0) (z .2) a (Decided d) after c d refl)
+    where
+      each : (K : ℕ) → ((a o p k v : ℕ) → Verdict (waits rows) (length rows) τ (costOf costs) a o p k v → Demand K a o k)
+          → (a : ℕ) (x : Answer) (after : List ℕ) → Called rows costs τ a before x after → (d : Decision) → x ≡ Decided d → Demand K a (number (d .outcome)) (d .rounds)
+      each K h a x after (refuses k r) d e = absurd (refusal-faultless rows costs τ (length before) k r f)
+      each K h a x after (answers d′ after″ g v F) d e = h a (number (d .outcome)) (d .price) (d .rounds) (d .victims) (subst Says (decided-unique d′ d e) v)
+        where
+          Says : Decision → Type 0
+          Says z = Verdict (waits rows) (length rows) τ (costOf costs) a (number (z .outcome)) (z .price) (z .rounds) (z .victims)

@@ -1,0 +1,4 @@
+pub mod RefusalLaws
+pub mod AnswerLaws
+pub mod CallLaws
+pub mod TableLaws
