@@ -1,4 +1,6 @@
 pub mod RefusalLaws
+pub mod CheckLaws
 pub mod AnswerLaws
+pub mod DecideLaws
 pub mod CallLaws
 pub mod TableLaws

@@ -1,4 +1,5 @@
 pub mod Refusals
+pub mod Checks
 pub mod Answers
 pub mod Called
 pub mod Worked
