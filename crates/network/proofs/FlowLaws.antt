@@ -13,7 +13,7 @@
 --   flow-start            at the start nothing flows
 --   room-limit            what bounds the capacities bounds the rooms
 --   capacity-conserved    in the document's network what flows into a job other than T flows out of it
---   capacity-limit        and no room is above S + 1: nothing leaves 64 bits
+--   capacity-limit        and no room is above S + 1, which refusal 8 keeps at 2^63 or below: nothing leaves 64 bits
 use mathlib.Core.Path.{_≡_, sym, _∙_, subst}
 use mathlib.Core.Logic.{_⊎_, inl, inr, _≢_}
 use mathlib.Core.Bool.{Bool, not}

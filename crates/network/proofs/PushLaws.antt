@@ -80,7 +80,7 @@ module _ (r : Room) (d a b : ℕ) (apart : a ≢ b) where
   pub push1-ahead : (x y : ℕ) → x ≡ a → y ≡ b → push1 r d a b x y ≡ r x y - d
   unfolding push1
   push1-ahead x y e f =
-      upd-other (upd r a b (r a b - d)) b a (r b a + d) x y (inl (λ q. apart (sym e ∙ q)))
+      upd-other (upd r a b (r a b - d)) b a _ x y (inl (λ q. apart (sym e ∙ q)))
       ∙ upd-at r a b (r a b - d) x y e f
       ∙ ap (λ (z : ℕ). z - d) (sym (room-at r x y a b e f))
 
@@ -90,7 +90,7 @@ module _ (r : Room) (d a b : ℕ) (apart : a ≢ b) where
 
   pub push1-aside : (x y : ℕ) → (x ≢ a) ⊎ (y ≢ b) → (x ≢ b) ⊎ (y ≢ a) → push1 r d a b x y ≡ r x y
   unfolding push1
-  push1-aside x y h k = upd-other (upd r a b (r a b - d)) b a (r b a + d) x y k ∙ upd-other r a b (r a b - d) x y h
+  push1-aside x y h k = upd-other (upd r a b (r a b - d)) b a _ x y k ∙ upd-other r a b (r a b - d) x y h
 
 -- ---- paths
 
