@@ -1,5 +1,6 @@
 pub mod RefusalLaws
 pub mod CheckLaws
+pub mod CheckedLaws
 pub mod AnswerLaws
 pub mod DecideLaws
 pub mod CallLaws
