@@ -1,0 +1,4 @@
+pub mod BackLaws
+pub mod DigitLaws
+pub mod LineLaws
+pub mod SpellLaws
