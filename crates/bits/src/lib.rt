@@ -1,0 +1,1 @@
+// Masks and their digits: the laws that every layer cites. No function.

@@ -1,0 +1,1 @@
+// Rounds against an allowance.

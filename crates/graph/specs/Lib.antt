@@ -1,0 +1,4 @@
+pub mod Waits
+pub mod Rings
+pub mod Turned
+pub mod Pools

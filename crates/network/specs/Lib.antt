@@ -1,0 +1,5 @@
+pub mod Rooms
+pub mod Paths
+pub mod Rounds
+pub mod Arcs
+pub mod Sets

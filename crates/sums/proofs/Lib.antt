@@ -1,0 +1,4 @@
+pub mod TestLaws
+pub mod SumLaws
+pub mod DoubleSums
+pub mod Least
