@@ -1,17 +1,16 @@
--- Refusals in the document's order. A refusal is its number in the refusal table; 0 is none.
+-- Refusals in the document's order (document 01, the refusal table). A refusal is its number there; 0 is none.
 --
--- k unless test     refusal k, unless the test holds
--- f then g          the refusal f; where there is none, g
+--   k when test     refusal k where the test passes, else none
+--   f then g        the refusal f; where there is none, g: "no smaller-placed refusal applies and"
 use mathlib.Core.Bool.{Bool, cond}
 use Prim.Native.Nat.{ℕ}
 use lib.Dec.{eqb}
 
 infixr 20 _then_
-infix 25 _unless_
+infix 25 _when_
 
-unfoldable pub _unless_ : ℕ → Bool → ℕ
-k unless test = cond test 0 k
+unfoldable pub _when_ : ℕ → Bool → ℕ
+k when test = cond test k 0
 
--- "Given exactly when no smaller-placed refusal applies and"
 unfoldable pub _then_ : ℕ → ℕ → ℕ
 f then g = cond (eqb f 0) g f

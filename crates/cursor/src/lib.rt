@@ -20,7 +20,7 @@ pub fn frame_fault(text: &[u8], at: usize, kind: u8, due: usize) -> u8
         return 11;
     }
     let digits = text::line_length(text, at);
-    if !text::whole_line(text, at, digits) {
+    if text::bad_line(text, at, digits) {
         return 10;
     }
     if digits != due {
@@ -40,7 +40,7 @@ pub fn further_fault(text: &[u8], at: usize) -> u8
         return 0;
     }
     let digits = text::line_length(text, at);
-    if !text::whole_line(text, at, digits) {
+    if text::bad_line(text, at, digits) {
         return 10;
     }
     11

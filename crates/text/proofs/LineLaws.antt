@@ -1,25 +1,25 @@
--- The line at a place, byte by byte, and when it is whole.
+-- The line at a place, byte by byte, and when it is refused.
 -- Assumes nothing.
 --
--- line-more, line-stop, line-end        a byte that is no line feed, a line feed, the end of the text
--- line-fits                             a line ends within the text
--- line-inside                           before its end a line has no line feed
--- whole-odd, whole-torn, whole-bad, whole-right   the four ways out of the test of a line
--- Sought, sought-..                     the search for a line's end: its invariant and one law for each way
--- Scanned, scanned-..                   the test of a line's digits: the same
+--   line-more, line-stop, line-end         a byte that is no line feed, a line feed, the end of the text
+--   line-fits                              a line ends within the text
+--   byte-is                                the bytes of a line are those of the text from its place on
+--   Sought, sought-..                      the search for a line's end: its invariant and one law for each way
+--   bad-odd, bad-torn, bad-other           the three ways to be refused
+--   Scanned, scanned-.., line-good         the test of a line's bytes: its invariant, its turns and its end
 use mathlib.Core.Path.{_≡_, refl, sym, ap, _∙_, subst}
-use mathlib.Core.Bool.{Bool, true, false, cond, _&&_, _||_}
+use mathlib.Core.Bool.{Bool, true, false, cond, not, _||_}
 use mathlib.Core.List.{List, [], _∷_}
-use Prim.Native.Nat.{ℕ, zero, suc, _+_, _-_, _%_, _<_, _≤_}
-use native.Mathlib.Decide.{ℕ-discrete}
+use Prim.Native.Nat.{ℕ, zero, suc, _+_, _-_, _%_, _<_, _≤_, zero-le}
 use native.Mathlib.Omega.{arith}
 use borrow.Author.Tests.{eq-eqb, ne-eqb}
-use lib.Dec.{eqb}
+use lib.Dec.{T, eqb}
 use lib.ListN.{length, getD, drop, drop-of-length-le, length-drop}
 use lib.Seq.{drop-cons, getD-drop}
-use Rattle.text.specs.Tests.{every}
+use Rattle.sums.specs.Tests.{any}
+use Rattle.sums.proofs.TestLaws.{T-eq, any-intro}
 use Rattle.text.specs.Digits.{isDigit}
-use Rattle.text.specs.Line.{lineOf, hasFeed, lineAt, wholeLine}
+use Rattle.text.specs.Line.{lineOf, hasFeed, lineAt, badLine}
 
 module _ (t : List ℕ) (at : ℕ) where
   pub line-end : length t ≤ at → lineAt t at ≡ []
@@ -67,35 +67,21 @@ pub line-fits : (t : List ℕ) (at : ℕ) → at ≤ length t → at + length (l
 unfolding lineAt
 line-fits t at h = omega (arith, line-short (drop at t), length-drop at t)
 
--- a place within a line: no line feed stands there
-pub line-inside : (t : List ℕ) (i : ℕ) → 0 < length (lineAt t i) → i < length t → getD t i 0 ≡ 10 → ⊥
-line-inside t i o h e = let z : length (lineAt t i) ≡ 0 = ap length (line-stop t i h e) in omega arith
+-- the bytes of a line are those of the text
+line-byte : (t : List ℕ) (i : ℕ) → i < length (lineOf t) → getD (lineOf t) i 0 ≡ getD t i 0
+unfolding lineOf
+line-byte [] i h = absurd (omega arith)
+line-byte (c ∷ t) i h = go (eqb c 10) (line-byte t) i h
+  where
+    go : (b : Bool) → ((k : ℕ) → k < length (lineOf t) → getD (lineOf t) k 0 ≡ getD t k 0) → (k : ℕ) → k < length (cond b [] (c ∷ lineOf t))
+        → getD (cond b [] (c ∷ lineOf t)) k 0 ≡ getD (c ∷ t) k 0
+    go true f k g = absurd (omega arith)
+    go false f zero g = refl
+    go false f (suc k) g = f k (omega arith)
 
-and-false : (b : Bool) → (b && false) ≡ false
-and-false true = refl
-and-false false = refl
-
--- the line at a place has d bytes
-module _ (t : List ℕ) (at d : ℕ) (e : d ≡ length (lineAt t at)) where
-  pub whole-odd : (d % 2 ≡ 0 → ⊥) → wholeLine t at ≡ false
-  unfolding wholeLine
-  whole-odd o = rw (← e) (simp (ne-eqb _ _ o, and-false))
-
-  pub whole-torn : at ≤ length t → at + d ≡ length t → wholeLine t at ≡ false
-  unfolding wholeLine lineAt
-  whole-torn h o =
-      let f = feed-long (drop at t) (omega (arith, length-drop at t, e)) in
-      rw f (simp (and-false, and-false))
-
-  pub whole-bad : every isDigit (lineAt t at) ≡ false → wholeLine t at ≡ false
-  unfolding wholeLine
-  whole-bad b = simp b
-
-  pub whole-right : at + d < length t → d % 2 ≡ 0 → every isDigit (lineAt t at) ≡ true → wholeLine t at ≡ true
-  unfolding wholeLine lineAt
-  whole-right h o b =
-      let f = feed-short (drop at t) (omega (arith, length-drop at t, e)) in
-      rw (f, b, ← e) (simp (eq-eqb _ _ o))
+pub byte-is : (t : List ℕ) (at i : ℕ) → i < length (lineAt t at) → getD (lineAt t at) i 0 ≡ getD t (at + i) 0
+unfolding lineAt
+byte-is t at i h = line-byte (drop at t) i h ∙ getD-drop at t i 0
 
 -- the search for the line feed stands at i: no line feed from at up to i
 pub record Sought (t : List ℕ) (at i : ℕ) : Type 0 where
@@ -120,35 +106,63 @@ module _ (t : List ℕ) (at : ℕ) where
     pub sought-end : length t ≤ i → i - at ≡ length (lineAt t at)
     sought-end h = let e = ap length (line-end t i h) in omega (arith, s .past, s .rest, e)
 
--- the test of the digits stands at i, in the line at `at` of d bytes: those before i are digits, those from i on decide
+or-true : (b : Bool) → (b || true) ≡ true
+or-true true = refl
+or-true false = refl
+
+-- byte i of a line is other than a digit
+abbrev other : List ℕ → ℕ → Bool
+other l i = not (isDigit (getD l i 0))
+
+-- the test of a line of d bytes stands at byte i
 pub record Scanned (t : List ℕ) (at d i : ℕ) : Type 0 where
-  pub past : at ≤ i
-  pub room : at + d < length t
-  pub rest : i + length (lineAt t i) ≡ at + d
-  pub same : every isDigit (lineAt t at) ≡ every isDigit (lineAt t i)
+  pub inside : i ≤ d
+  -- a line feed ends the line
+  pub fed : at + d < length t
+  -- no byte before byte i is other than a digit
+  pub digits : any i (other (lineAt t at)) ≡ false
 
-pub scanned-start : (t : List ℕ) (at d : ℕ) → d ≡ length (lineAt t at) → at ≤ length t → (at + d ≡ length t → ⊥) → Scanned t at d at
-scanned-start t at d e h n = record { past = omega arith; room = omega (arith, line-fits t at h); rest = omega (arith, e); same = refl }
+-- the line at a place has d bytes
+module _ (t : List ℕ) (at d : ℕ) (e : d ≡ length (lineAt t at)) where
+  pub bad-odd : d % 2 ≡ 1 → badLine t at ≡ true
+  unfolding badLine
+  bad-odd o = rw (← e) (simp (eq-eqb _ _ o, or-true))
 
-module _ (t : List ℕ) (at d i : ℕ) (s : Scanned t at d i) where
-  module _ (l : i < at + d) where
-    next : lineAt t i ≡ getD t i 0 ∷ lineAt t (i + 1)
-    next = line-more t i (omega (arith, s .room)) (line-inside t i (omega (arith, s .rest)) (omega (arith, s .room)))
+  pub bad-torn : at ≤ length t → at + d ≡ length t → badLine t at ≡ true
+  unfolding badLine lineAt
+  bad-torn h o =
+      let f = feed-long (drop at t) (omega (arith, length-drop at t, e)) in
+      rw f (simp or-true)
 
-    pub scanned-more : isDigit (getD t i 0) ≡ true → Scanned t at d (i + 1)
-    unfolding every
-    scanned-more y =
-        let e = ap length next in
-        record { past = omega (arith, s .past); room = s .room; rest = omega (arith, s .rest, e); same = s .same ∙ rw next (simp y) }
+  pub scanned-start : at ≤ length t → (at + d ≡ length t → ⊥) → Scanned t at d 0
+  unfolding any
+  scanned-start h n = record { inside = zero-le; fed = omega (arith, line-fits t at h); digits = refl }
 
-    pub scanned-bad : isDigit (getD t i 0) ≡ false → every isDigit (lineAt t at) ≡ false
-    unfolding every
-    scanned-bad n = s .same ∙ rw next (simp n)
+  module _ (i : ℕ) (s : Scanned t at d i) where
+    -- byte i of the line is c
+    module _ (c : ℕ) (l : i < d) (f : c ≡ getD t (at + i) 0) where
+      byte : getD (lineAt t at) i 0 ≡ c
+      byte = byte-is t at i (omega (arith, e)) ∙ sym f
 
-  pub scanned-end : at + d ≤ i → every isDigit (lineAt t at) ≡ true
-  unfolding every
-  scanned-end l = s .same ∙ rw (none (lineAt t i) (omega (arith, s .rest))) refl
-    where
-      none : (x : List ℕ) → length x ≡ 0 → x ≡ []
-      none [] e = refl
-      none (c ∷ x) e = absurd (omega arith)
+      pub bad-other : isDigit c ≡ false → badLine t at ≡ true
+      unfolding badLine
+      bad-other n =
+          let q : T (other (lineAt t at) i) = subst T (sym (ap (λ (x : ℕ). not (isDigit x)) byte ∙ ap not n)) tt in
+          let w = T-eq (any (length (lineAt t at)) (other (lineAt t at))) true (λ _. tt) (λ _. any-intro (length (lineAt t at)) (other (lineAt t at)) i (omega (arith, e)) q) in
+          rw w refl
+
+      pub scanned-more : isDigit c ≡ true → Scanned t at d (i + 1)
+      unfolding any
+      scanned-more y =
+          let k : i + 1 ≡ suc i = omega arith in
+          record { inside = omega arith; fed = s .fed; digits = rw (k, s .digits) (ap (λ (x : ℕ). not (isDigit x)) byte ∙ ap not y) }
+
+    pub line-good : (d % 2 ≡ 1 → ⊥) → d ≤ i → badLine t at ≡ false
+    unfolding badLine lineAt
+    line-good o l =
+        let a = s .inside in
+        let b = s .fed in
+        let k : i ≡ d = omega arith in
+        let f = feed-short (drop at t) (omega (arith, length-drop at t, e)) in
+        let y : any (length (lineOf (drop at t))) (other (lineOf (drop at t))) ≡ false = subst (λ (x : ℕ). any x (other (lineOf (drop at t))) ≡ false) (k ∙ e) (s .digits) in
+        rw (f, y, ← e) (simp (ne-eqb _ _ o))

@@ -1,4 +1,4 @@
+pub mod Tests
 pub mod Digits
 pub mod Line
 pub mod Spell
-pub mod Tests

@@ -1,7 +1,7 @@
--- Numbers written as digits: "Most significant byte first, capital digits."
+-- Numbers written as digits (document 01, "Frames": "Most significant byte first, capital digits").
 --
--- spelt d        the digit worth d, from 0 to 15
--- spell k x      the last k digits of x
+--   spelt d        the digit worth d, from 0 to 15
+--   spell k x      the last k digits of x
 use mathlib.Core.Bool.{cond}
 use mathlib.Core.List.{List, [], _∷_}
 use Prim.Native.Nat.{ℕ, zero, suc, _+_, _/_, _%_, _^_}

@@ -1,13 +1,13 @@
 // Hexadecimal text by its places: digits, bytes and numbers, the line at a place, digits written.
 //
 // Every function is total on the text: behind its end stands 0, and a byte that is no digit is worth 0.
-// Whether a line may be read is `whole_line`, refusal 10.
+// Which line may be read at all says `bad_line`, refusal 10.
 ghost use mathlib.Core.Path.{_≡_};
 ghost use Prim.Native.Nat.{_+_, _*_, _^_, _≤_, _<_};
 ghost use mathlib.Core.List.{_++_};
 ghost use lib.ListN.{getD, length, take, drop};
 ghost use Rattle.text.specs.Digits.{isDigit, digit, byteAt, number};
-ghost use Rattle.text.specs.Line.{lineAt, wholeLine};
+ghost use Rattle.text.specs.Line.{lineAt, badLine};
 ghost use Rattle.text.specs.Spell.{spelt, spell};
 
 // Whether a byte is a digit, 0-9 or A-F.
@@ -99,26 +99,25 @@ pub fn line_length(text: &[u8], at: usize) -> usize
     i - at
 }
 
-// Whether the line at a place, of so many bytes, is digits, evenly many, and a line feed.
-pub fn whole_line(text: &[u8], at: usize, bytes: usize) -> bool
+// Refusal 10 of the line at a place, which has so many bytes.
+pub fn bad_line(text: &[u8], at: usize, bytes: usize) -> bool
     requires { ⌜ (at ≤ length (now text)) × (bytes ≡ length (lineAt (now text) at)) ⌝ }
-    ensures { λ r. ⌜ r ≡ wholeLine (now (text .entry)) at ⌝ }
+    ensures { λ r. ⌜ r ≡ badLine (now (text .entry)) at ⌝ }
 {
-    let end = at + bytes;
-    if bytes % 2 != 0 {
-        return false;
+    if bytes % 2 == 1 {
+        return true;
     }
-    if end == text.len() {
-        return false;
+    if at + bytes == text.len() {
+        return true;
     }
-    let mut i = at;
-    while i < end {
-        if !is_digit(text[i]) {
-            return false;
+    let mut i = 0;
+    while i < bytes {
+        if !is_digit(text[at + i]) {
+            return true;
         }
         i += 1;
     }
-    true
+    false
 }
 
 // The digit worth d.
