@@ -1,0 +1,255 @@
+// Frames: what a line says, and what refuses it.
+//
+// Each frame type owns its kind byte and its digit count, and is made by its constructor. `header_fault` and `job_fault`
+// give the first refusal of one line, in the order of the document: 10, 11, then the fields from left to right.
+use ticks::{Operations, Ticks};
+
+ghost use mathlib.Core.Path.{_≡_};
+ghost use Prim.Native.Nat.{_+_, _*_, _^_, _<_};
+ghost use Rattle.frames.specs.Kinds.{headerDigits, jobDigits};
+ghost use Rattle.frames.specs.HeaderFrame.{headerAt, inRange, headerFault};
+ghost use Rattle.frames.specs.JobFrame.{jobAt, ageFault, operationsFault, fieldsFault, stateAbove, waitsIn, jobFault};
+
+// The header frame: "01, present tick, a, b, n, pools s, T, allowance".
+pub struct Header {
+    pub present: Ticks,
+    pub a: u16,
+    pub b: u16,
+    pub n: usize,
+    pub s: usize,
+    pub t: usize,
+    pub allowance: u32,
+}
+
+// A job frame up to its pool states: "02, job number, issue tick, N".
+pub struct Job {
+    pub number: usize,
+    pub issue: Ticks,
+    pub operations: Operations,
+}
+
+// The answer frame: "03, outcome, price, rounds, victims".
+pub struct Answer {
+    pub outcome: u8,
+    pub price: u64,
+    pub rounds: u32,
+    pub victims: u64,
+}
+
+// The refusal frame: "0F, number, line". Number 0: nothing is refused.
+pub struct Refusal {
+    pub number: u8,
+    pub line: u16,
+}
+
+impl Header {
+    pub const KIND: u8 = 1;
+    pub const DIGITS: usize = 32;
+
+    // The header that the digits at a place spell.
+    pub fn read(text: &[u8], at: usize) -> Self
+        requires { ⌜ at + headerDigits < 2 ^ 64 ⌝ }
+        ensures { λ r. ⌜ r ≡ headerAt (now (text .entry)) at ⌝ }
+    {
+        Self {
+            present: Ticks(text::number4(text, at + 2)),
+            a: text::number2(text, at + 10),
+            b: text::number2(text, at + 14),
+            n: text::byte_at(text, at + 18) as usize,
+            s: text::byte_at(text, at + 20) as usize,
+            t: text::byte_at(text, at + 22) as usize,
+            allowance: text::number4(text, at + 24),
+        }
+    }
+}
+
+impl Job {
+    pub const KIND: u8 = 2;
+
+    // How many digits a job frame has at s pools.
+    pub fn digits(s: usize) -> usize
+        requires { ⌜ jobDigits s < 2 ^ 64 ⌝ }
+        ensures { λ r. ⌜ r ≡ jobDigits s ⌝ }
+    {
+        20 + 2 * s
+    }
+
+    // The job frame that the digits at a place spell.
+    pub fn read(text: &[u8], at: usize) -> Self
+        requires { ⌜ at + jobDigits 0 < 2 ^ 64 ⌝ }
+        ensures { λ r. ⌜ r ≡ jobAt (now (text .entry)) at ⌝ }
+    {
+        Self {
+            number: text::byte_at(text, at + 2) as usize,
+            issue: Ticks(text::number4(text, at + 4)),
+            operations: Operations(text::number4(text, at + 12)),
+        }
+    }
+}
+
+impl Answer {
+    pub const KIND: u8 = 3;
+    pub const DIGITS: usize = 44;
+
+    // The answer with these fields.
+    pub fn new(outcome: u8, price: u64, rounds: u32, victims: u64) -> Self
+        ensures { λ r. ⌜ (r .outcome ≡ outcome) × (r .price ≡ price) × (r .rounds ≡ rounds) × (r .victims ≡ victims) ⌝ }
+    {
+        Self {
+            outcome,
+            price,
+            rounds,
+            victims,
+        }
+    }
+}
+
+impl Refusal {
+    pub const KIND: u8 = 15;
+    pub const DIGITS: usize = 8;
+
+    // Refusal `number` at `line`.
+    pub fn new(number: u8, line: u16) -> Self
+        ensures { λ r. ⌜ (r .number ≡ number) × (r .line ≡ line) ⌝ }
+    {
+        Self { number, line }
+    }
+}
+
+// Whether every field of a header is in range.
+fn in_range(h: Header) -> bool
+    ensures { λ r. ⌜ r ≡ inRange h ⌝ }
+{
+    if h.a < 1 {
+        return false;
+    }
+    if 1000 < h.a {
+        return false;
+    }
+    if 1000 < h.b {
+        return false;
+    }
+    if h.n < 1 {
+        return false;
+    }
+    if 64 < h.n {
+        return false;
+    }
+    if h.s < 1 {
+        return false;
+    }
+    if 16 < h.s {
+        return false;
+    }
+    if h.n <= h.t {
+        return false;
+    }
+    true
+}
+
+// 10, 11 or 12, where the line at a place is no header with its fields in range; else 0.
+pub fn header_fault(text: &[u8], at: usize) -> u8
+    requires { ⌜ at + headerDigits < 2 ^ 64 ⌝ }
+    ensures { λ r. ⌜ r ≡ headerFault (now (text .entry)) at ⌝ }
+{
+    let f = cursor::frame_at(text, at, Header::KIND, Header::DIGITS);
+    if f != 0 {
+        return f;
+    }
+    if !in_range(Header::read(text, at)) {
+        return 12;
+    }
+    0
+}
+
+// 15, where a clock went back; else 0.
+fn age_fault(present: Ticks, issue: Ticks) -> u8
+    ensures { λ r. ⌜ r ≡ ageFault present issue ⌝ }
+{
+    let age = ticks::age(present, issue);
+    if 2147483648 <= age.0 {
+        return 15;
+    }
+    0
+}
+
+// 14, where a number of operations is out of range; else 0.
+fn operations_fault(operations: Operations) -> u8
+    ensures { λ r. ⌜ r ≡ operationsFault operations ⌝ }
+{
+    if operations.0 == 0 {
+        return 14;
+    }
+    if 1048576 < operations.0 {
+        return 14;
+    }
+    0
+}
+
+// 13, 15 or 14, where the fields of a job frame are not those of the job due; else 0.
+pub fn fields_fault(h: Header, due: usize, job: Job) -> u8
+    ensures { λ r. ⌜ r ≡ fieldsFault h due job ⌝ }
+{
+    if job.number != due {
+        return 13;
+    }
+    let old = age_fault(h.present, job.issue);
+    if old != 0 {
+        return old;
+    }
+    operations_fault(job.operations)
+}
+
+// Whether one of the first s pool states of the job frame at a place is above 02.
+pub fn state_above(text: &[u8], at: usize, s: usize) -> bool
+    requires { ⌜ at + jobDigits s < 2 ^ 64 ⌝ }
+    ensures { λ r. ⌜ r ≡ stateAbove (now (text .entry)) at s ⌝ }
+{
+    let mut p = 0;
+    while p < s {
+        if 2 < text::byte_at(text, at + 20 + 2 * p) {
+            return true;
+        }
+        p += 1;
+    }
+    false
+}
+
+// At how many of the first s pools the job of the frame at a place waits.
+pub fn waits_in(text: &[u8], at: usize, s: usize) -> usize
+    requires { ⌜ at + jobDigits s < 2 ^ 64 ⌝ }
+    ensures { λ r. ⌜ r ≡ waitsIn (now (text .entry)) at s ⌝ }
+{
+    let mut waits = 0;
+    let mut p = 0;
+    while p < s {
+        if text::byte_at(text, at + 20 + 2 * p) == 2 {
+            waits += 1;
+        }
+        p += 1;
+    }
+    waits
+}
+
+// The first refusal of the line at a place as the frame of the job due, from 10, 11 and 13 to 17; 0 where there is none.
+pub fn job_fault(h: Header, text: &[u8], due: usize, at: usize) -> u8
+    requires { ⌜ at + jobDigits (h .s) < 2 ^ 64 ⌝ }
+    ensures { λ r. ⌜ r ≡ jobFault h (now (text .entry)) due at ⌝ }
+{
+    let s = h.s;
+    let f = cursor::frame_at(text, at, Job::KIND, Job::digits(s));
+    if f != 0 {
+        return f;
+    }
+    let g = fields_fault(h, due, Job::read(text, at));
+    if g != 0 {
+        return g;
+    }
+    if state_above(text, at, s) {
+        return 16;
+    }
+    if 1 < waits_in(text, at, s) {
+        return 17;
+    }
+    0
+}
