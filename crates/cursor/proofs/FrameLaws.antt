@@ -40,9 +40,9 @@ module _ (t : List ℕ) (at kind due : ℕ) where
     frame-torn b = simp (lt-leb _ _ a, b)
 
     module _ (b : badLine t at ≡ false) where
-      pub frame-length : (d ≡ due → ⊥) → frameFault t at kind due ≡ 11
+      pub frame-other : (d ≡ due → ⊥) → frameFault t at kind due ≡ 11
       unfolding frameFault _then_ _when_
-      frame-length l = rw (← e) (simp (lt-leb _ _ a, b, ne-eqb _ _ l))
+      frame-other l = rw (← e) (simp (lt-leb _ _ a, b, ne-eqb _ _ l))
 
       -- and its first byte is g
       module _ (l : d ≡ due) (g : ℕ) (i : g ≡ byteAt t at) where

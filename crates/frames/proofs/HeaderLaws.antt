@@ -1,16 +1,16 @@
--- What refuses a header, by what the code finds on its way: one law for each return. And what holds of a header that nothing refuses.
+-- What refuses a header, by what the code finds on its way: one law for each return.
 -- Assumes nothing.
 --
 --   a-low .. t-high, range-right     the ways out of `in_range`, field by field
---   first-first, second-first        a chain of two refusals, by its first
 --   header-frame, header-out, header-right    the ways out of `header_fault`
-use mathlib.Core.Path.{_≡_, sym}
-use mathlib.Core.Bool.{true, false, not}
+use mathlib.Core.Path.{_≡_}
+use mathlib.Core.Bool.{true, false}
 use mathlib.Core.List.{List}
 use Prim.Native.Nat.{ℕ, _<_, _≤_, zero-le}
-use borrow.Author.Tests.{eq-eqb, ne-eqb, le-ltb, lt-ltb, le-leb, lt-leb}
+use borrow.Author.Tests.{le-ltb, lt-ltb, le-leb, lt-leb}
 use Rattle.cursor.specs.Order.{_then_, _when_}
 use Rattle.cursor.specs.Frame.{frameFault}
+use Rattle.cursor.proofs.OrderLaws.{then-first}
 use Rattle.frames.specs.declared.Header.{Header}
 use Rattle.frames.specs.Kinds.{headerKind, headerDigits}
 use Rattle.frames.specs.HeaderFrame.{headerAt, inRange, headerFault}
@@ -61,19 +61,10 @@ module _ (h : Header) where
                 range-right x =
                     simp (le-leb _ _ a, le-leb _ _ a′, le-leb 0 (h .b) zero-le, le-leb _ _ b, le-leb _ _ n, le-leb _ _ n′, le-leb _ _ s, le-leb _ _ s′, lt-ltb _ _ x)
 
--- r is what the first refusal gives
-pub first-first : (f g r : ℕ) → r ≡ f → (r ≡ 0 → ⊥) → f then g ≡ r
-unfolding _then_
-first-first f g r e n = rw (← e) (simp (ne-eqb _ _ n))
-
-pub second-first : (f g r : ℕ) → r ≡ f → r ≡ 0 → f then g ≡ g
-unfolding _then_
-second-first f g r e z = rw (← e) (simp (eq-eqb _ _ z))
-
 module _ (t : List ℕ) (at f : ℕ) (z : f ≡ frameFault t at headerKind headerDigits) where
   pub header-frame : (f ≡ 0 → ⊥) → headerFault t at ≡ f
   unfolding headerFault
-  header-frame n = first-first _ _ f z n
+  header-frame n = then-first _ _ f z n
 
   -- the header h, read there
   module _ (y : f ≡ 0) (h : Header) (e : h ≡ headerAt t at) where

@@ -24,6 +24,7 @@ use Rattle.graph.specs.Pools.{isWaiting}
 use Rattle.text.specs.Digits.{byteAt}
 use Rattle.cursor.specs.Order.{_then_, _when_}
 use Rattle.cursor.specs.Frame.{frameFault}
+use Rattle.cursor.proofs.OrderLaws.{then-first, then-second}
 use Rattle.ticks.specs.declared.Ticks.{Ticks}
 use Rattle.ticks.specs.declared.Operations.{Operations}
 use Rattle.ticks.specs.Costs.{ageOf}
@@ -31,7 +32,6 @@ use Rattle.frames.specs.declared.Header.{Header}
 use Rattle.frames.specs.declared.Job.{Job}
 use Rattle.frames.specs.Kinds.{jobKind, jobDigits}
 use Rattle.frames.specs.JobFrame.{jobAt, stateByte, ageFault, operationsFault, fieldsFault, stateAbove, waitsIn, jobFault}
-use Rattle.frames.proofs.HeaderLaws.{first-first, second-first}
 
 module _ (present issue g : Ticks) (e : g ≡ ageOf present issue) where
   pub age-old : 2 ^ 31 ≤ g .0 → ageFault present issue ≡ 15
@@ -111,17 +111,17 @@ frame-is t at k s d f e z = z ∙ ap (frameFault t at k) e
 module _ (h : Header) (t : List ℕ) (due at f : ℕ) (z : f ≡ frameFault t at jobKind (jobDigits (h .s))) where
   pub job-frame : (f ≡ 0 → ⊥) → jobFault h t due at ≡ f
   unfolding jobFault
-  job-frame n = first-first _ _ f z n
+  job-frame n = then-first _ _ f z n
 
   module _ (y : f ≡ 0) (r : Job) (e : r ≡ jobAt t at) (g : ℕ) (a : g ≡ fieldsFault h due r) where
     pub job-fields : (g ≡ 0 → ⊥) → jobFault h t due at ≡ g
     unfolding jobFault
-    job-fields n = second-first _ _ f z y ∙ first-first _ _ g (a ∙ ap (fieldsFault h due) e) n
+    job-fields n = then-second _ _ f z y ∙ then-first _ _ g (a ∙ ap (fieldsFault h due) e) n
 
     module _ (n : g ≡ 0) where
       rest : jobFault h t due at ≡ 16 when stateAbove t at (h .s) then 17 when ltb 1 (waitsIn t at (h .s))
       unfolding jobFault
-      rest = second-first _ _ f z y ∙ second-first _ _ g (a ∙ ap (fieldsFault h due) e) n
+      rest = then-second _ _ f z y ∙ then-second _ _ g (a ∙ ap (fieldsFault h due) e) n
 
       pub job-above : stateAbove t at (h .s) ≡ true → jobFault h t due at ≡ 16
       unfolding _then_ _when_

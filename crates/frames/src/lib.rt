@@ -7,6 +7,7 @@ use ticks::{Operations, Ticks};
 ghost use mathlib.Core.Path.{_≡_};
 ghost use Prim.Native.Nat.{_+_, _*_, _^_, _<_};
 ghost use Rattle.frames.specs.Kinds.{headerDigits, jobDigits};
+ghost use Rattle.frames.specs.Records.{answered, refused};
 ghost use Rattle.frames.specs.HeaderFrame.{headerAt, inRange, headerFault};
 ghost use Rattle.frames.specs.JobFrame.{jobAt, ageFault, operationsFault, fieldsFault, stateAbove, waitsIn, jobFault};
 
@@ -93,7 +94,7 @@ impl Answer {
 
     // The answer with these fields.
     pub fn new(outcome: u8, price: u64, rounds: u32, victims: u64) -> Self
-        ensures { λ r. ⌜ (r .outcome ≡ outcome) × (r .price ≡ price) × (r .rounds ≡ rounds) × (r .victims ≡ victims) ⌝ }
+        ensures { λ r. ⌜ r ≡ answered outcome price rounds victims ⌝ }
     {
         Self {
             outcome,
@@ -110,7 +111,7 @@ impl Refusal {
 
     // Refusal `number` at `line`.
     pub fn new(number: u8, line: u16) -> Self
-        ensures { λ r. ⌜ (r .number ≡ number) × (r .line ≡ line) ⌝ }
+        ensures { λ r. ⌜ r ≡ refused number line ⌝ }
     {
         Self { number, line }
     }

@@ -1,6 +1,6 @@
 -- `cursor::frame_fault`: a chain of early returns, one law each.
 use mathlib.Core.Path.{sym, _∙_}
-use Rattle.cursor.proofs.FrameLaws.{frame-end, frame-torn, frame-length, frame-kind, frame-right}
+use Rattle.cursor.proofs.FrameLaws.{frame-end, frame-torn, frame-other, frame-kind, frame-right}
 use borrow.Author.Needs.{needs}
 use Rattle.cursor.proofs.frame_fault.Statement.{statement}
 use Rattle.cursor.proofs.frame_fault.Tie as tie
@@ -23,7 +23,7 @@ returns-2 : tie.Need-returns-2
 returns-2 c = sym (frame-torn _ _ _ _ (c .before .before .before .if1 .left) _ (c .before .before .line-length .ensures) (sym (c .before .bad-line .ensures) ∙ c .if2 .taken))
 
 returns-3 : tie.Need-returns-3
-returns-3 c = sym (frame-length _ _ _ _ (c .before .before .before .before .if1 .left) _ (c .before .before .before .line-length .ensures) (sym (c .before .before .bad-line .ensures) ∙ c .before .if2 .left) (c .if3 .taken))
+returns-3 c = sym (frame-other _ _ _ _ (c .before .before .before .before .if1 .left) _ (c .before .before .before .line-length .ensures) (sym (c .before .before .bad-line .ensures) ∙ c .before .if2 .left) (c .if3 .taken))
 
 byte-at-requires : tie.Need-byte-at-requires
 byte-at-requires c κs = search needs
