@@ -1,2 +1,3 @@
 pub mod PlaceLaws
 pub mod PassLaws
+pub mod TakenLaws

@@ -5,6 +5,8 @@
 --   onLine line f after              refusal f at this line; where there is none, what comes after
 --   jobsRefusal h text k j           with k job frames due, the next being job j's: the first refusal from there on
 --   refusalOf rows costs text        the first refusal of a text that is read into lists of so many places
+--   Taken text                       nothing refuses the text, where the lists are long enough
+use mathlib.Core.Path.{_≡_}
 use mathlib.Core.Bool.{cond, _||_}
 use mathlib.Core.List.{List}
 use Prim.Native.Nat.{ℕ, zero, suc}
@@ -38,3 +40,6 @@ refusalOf rows costs text =
     onLine 0 (3 when (ltb rows 64 || ltb costs 64) then 9 when ltb 4096 (length text))
     (onLine 1 (headerFault text 0)
     (jobsRefusal (headerAt text 0) text (headerAt text 0 .n) 0))
+
+abbrev pub Taken : List ℕ → Type 0
+Taken text = refusalOf 64 64 text ≡ accepted

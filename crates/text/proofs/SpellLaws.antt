@@ -1,5 +1,10 @@
--- Digits written from the last to the first.
+-- Digits written from the last to the first, and parts of a list written one behind another.
 -- Assumes nothing.
+--
+--   spelt-low, spelt-high          the digit worth d, below 10 and from 10 on
+--   Spelling, spelling-..          the writing of k digits: its invariant, its start, a turn, its end
+--   part-next                      the next part behind what is written
+--   spell-length                   k digits are k long
 use mathlib.Core.Path.{_≡_, refl, sym, ap, _∙_, subst}
 use mathlib.Core.List.{List, [], _∷_, _++_, append-assoc}
 use Prim.Native.Nat.{ℕ, zero, suc, _+_, _*_, _-_, _/_, _%_, _^_, _<_, _≤_}
@@ -67,10 +72,10 @@ spelling-end d at k x l rest i o s =
     let b : k - i ≡ k = omega arith in
     s .done ∙ rw (a, b) refl
 
--- the next field behind what is written
-pub field-next : (d pre l l′ : List ℕ) (a k x : ℕ) → length pre ≡ a → l ≡ pre ++ drop a d → l′ ≡ take a l ++ spell k x ++ drop (a + k) l
-    → l′ ≡ pre ++ spell k x ++ drop (a + k) d
-field-next d pre l l′ a k x e f g =
+-- the next part behind what is written
+pub part-next : (d pre part l l′ : List ℕ) (a k : ℕ) → length pre ≡ a → l ≡ pre ++ drop a d → l′ ≡ take a l ++ part ++ drop (a + k) l
+    → l′ ≡ pre ++ part ++ drop (a + k) d
+part-next d pre part l l′ a k e f g =
     let t : take a l ≡ pre = rw f (take-at pre (drop a d) a e) in
     let r : drop (a + k) l ≡ drop (a + k) d = rw (f, ← e) (drop-append-add pre (drop (length pre) d) k ∙ drop-drop k (length pre) d) in
     g ∙ rw (t, r) refl

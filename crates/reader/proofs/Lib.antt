@@ -1,0 +1,4 @@
+pub mod TableLaws
+pub mod FillLaws
+pub mod ReadLaws
+pub mod SnapshotLaws
