@@ -1,3 +1,1 @@
-pub mod HeaderLaws
-pub mod JobLaws
-pub mod RangeLaws
+pub mod Unique

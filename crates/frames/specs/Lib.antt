@@ -1,4 +1,3 @@
 pub mod Kinds
 pub mod Records
-pub mod HeaderFrame
-pub mod JobFrame
+pub mod Fields

@@ -24,9 +24,9 @@ use Rattle.ticks.specs.Costs.{ageOf, costOf}
 use Rattle.frames.specs.declared.Header.{Header}
 use Rattle.frames.specs.declared.Job.{Job}
 use Rattle.frames.specs.Kinds.{jobDigits}
-use Rattle.frames.specs.HeaderFrame.{headerAt}
-use Rattle.frames.specs.JobFrame.{jobAt}
-use Rattle.frames.proofs.RangeLaws.{Ranged}
+use Rattle.frames.specs.Fields.{headerAt}
+use Rattle.frames.specs.Fields.{jobAt}
+use Rattle.faults.proofs.RangeLaws.{Ranged}
 use Rattle.refusals.specs.Places.{jobPlace}
 use Rattle.refusals.specs.Refused.{Taken}
 use Rattle.refusals.proofs.PlaceLaws.{placeAt, place-small}

@@ -12,7 +12,7 @@ use native.Mathlib.Omega.{arith}
 use lib.ListN.{length}
 use Rattle.frames.specs.declared.Header.{Header}
 use Rattle.frames.specs.declared.Refusal.{Refusal}
-use Rattle.frames.specs.HeaderFrame.{headerAt}
+use Rattle.frames.specs.Fields.{headerAt}
 use Rattle.refusals.specs.Refused.{refusalOf, Taken}
 use Rattle.refusals.proofs.TakenLaws.{taken-any}
 use Rattle.reader.specs.declared.Snapshot.{Snapshot}

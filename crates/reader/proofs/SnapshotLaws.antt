@@ -17,9 +17,9 @@ use Rattle.sums.proofs.SumLaws.{sum-mono, sum-const}
 use Rattle.graph.specs.Pools.{WaitsFor}
 use Rattle.ticks.specs.Costs.{ageOf, costOf}
 use Rattle.frames.specs.declared.Header.{Header}
-use Rattle.frames.specs.HeaderFrame.{headerAt}
-use Rattle.frames.specs.JobFrame.{jobAt}
-use Rattle.frames.proofs.RangeLaws.{Ranged, Sound}
+use Rattle.frames.specs.Fields.{headerAt}
+use Rattle.frames.specs.Fields.{jobAt}
+use Rattle.faults.proofs.RangeLaws.{Ranged, Sound}
 use Rattle.refusals.specs.Places.{jobPlace}
 use Rattle.refusals.specs.Refused.{Taken}
 use Rattle.refusals.proofs.TakenLaws.{Whole, taken-whole, taken-any}

@@ -19,7 +19,7 @@ use Rattle.text.specs.Digits.{byteAt}
 use Rattle.text.proofs.SpellLaws.{part-next}
 use Rattle.graph.specs.Pools.{stateAt, Table}
 use Rattle.frames.specs.declared.Header.{Header}
-use Rattle.frames.specs.JobFrame.{stateByte}
+use Rattle.frames.specs.Fields.{stateByte}
 use Rattle.refusals.specs.Places.{jobPlace}
 use Rattle.reader.specs.Snapshots.{frameStates, statesOf}
 

@@ -19,8 +19,8 @@ use Rattle.graph.specs.Pools.{WaitsFor}
 use Rattle.ticks.specs.Costs.{ageOf, costOf}
 use Rattle.frames.specs.declared.Header.{Header}
 use Rattle.frames.specs.declared.Job.{Job}
-use Rattle.frames.specs.HeaderFrame.{headerAt}
-use Rattle.frames.specs.JobFrame.{jobAt, stateByte}
+use Rattle.frames.specs.Fields.{headerAt}
+use Rattle.frames.specs.Fields.{jobAt, stateByte}
 use Rattle.refusals.specs.Places.{jobPlace}
 use Rattle.refusals.specs.Refused.{refusalOf}
 use Rattle.reader.specs.declared.Snapshot.{Snapshot}

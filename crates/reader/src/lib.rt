@@ -10,7 +10,7 @@ ghost use mathlib.Core.List.{_++_};
 ghost use Prim.Native.Nat.{_+_, _*_, _^_, _≤_, _<_};
 ghost use lib.ListN.{length, take, drop};
 ghost use Rattle.frames.specs.Kinds.{jobDigits};
-ghost use Rattle.frames.specs.HeaderFrame.{headerAt};
+ghost use Rattle.frames.specs.Fields.{headerAt};
 ghost use Rattle.refusals.specs.Refused.{Taken};
 ghost use Rattle.reader.specs.Snapshots.{frameStates, statesOf, RowOf, jobCost, CostOf, Filled, IsRead};
 

@@ -15,9 +15,9 @@ use lib.ListN.{length}
 use Rattle.text.specs.Line.{lineAt}
 use Rattle.frames.specs.declared.Header.{Header}
 use Rattle.frames.specs.Kinds.{headerDigits, jobDigits}
-use Rattle.frames.specs.HeaderFrame.{headerFault}
-use Rattle.frames.specs.JobFrame.{jobFault}
-use Rattle.frames.proofs.RangeLaws.{header-length, job-length}
+use Rattle.faults.specs.HeaderFault.{headerFault}
+use Rattle.faults.specs.JobFault.{jobFault}
+use Rattle.faults.proofs.RangeLaws.{header-length, job-length}
 use Rattle.refusals.specs.Places.{nextLine, startOf, jobLine, jobPlace}
 
 abbrev pub placeAt : Header → ℕ → ℕ

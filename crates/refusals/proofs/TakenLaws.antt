@@ -21,9 +21,11 @@ use Rattle.cursor.proofs.OrderLaws.{then-zero, when-zero}
 use Rattle.frames.specs.declared.Header.{Header}
 use Rattle.frames.specs.declared.Refusal.{Refusal}
 use Rattle.frames.specs.Records.{accepted}
-use Rattle.frames.specs.HeaderFrame.{headerAt, headerFault}
-use Rattle.frames.specs.JobFrame.{jobAt, jobFault, waitsIn}
-use Rattle.frames.proofs.RangeLaws.{Ranged, header-ranged, Sound, job-sound, job-number}
+use Rattle.frames.specs.Fields.{headerAt}
+use Rattle.faults.specs.HeaderFault.{headerFault}
+use Rattle.frames.specs.Fields.{jobAt}
+use Rattle.faults.specs.JobFault.{jobFault, waitsIn}
+use Rattle.faults.proofs.RangeLaws.{Ranged, header-ranged, Sound, job-sound, job-number}
 use Rattle.refusals.specs.Places.{jobLine, jobPlace}
 use Rattle.refusals.specs.Refused.{onLine, jobsRefusal, refusalOf, Taken}
 use Rattle.refusals.proofs.PlaceLaws.{placeAt, place-header, place-next}

@@ -17,8 +17,9 @@ use Rattle.cursor.specs.Frame.{furtherFault}
 use Rattle.frames.specs.declared.Header.{Header}
 use Rattle.frames.specs.declared.Refusal.{Refusal}
 use Rattle.frames.specs.Records.{refused, accepted}
-use Rattle.frames.specs.HeaderFrame.{headerAt, headerFault}
-use Rattle.frames.specs.JobFrame.{jobFault, waitsIn}
+use Rattle.frames.specs.Fields.{headerAt}
+use Rattle.faults.specs.HeaderFault.{headerFault}
+use Rattle.faults.specs.JobFault.{jobFault, waitsIn}
 use Rattle.refusals.specs.Places.{jobLine, jobPlace}
 
 unfoldable pub onLine : ℕ → ℕ → Refusal → Refusal

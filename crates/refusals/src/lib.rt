@@ -7,7 +7,8 @@ use frames::{Header, Refusal};
 ghost use mathlib.Core.Path.{_≡_};
 ghost use Prim.Native.Nat.{_+_, _*_, _≤_};
 ghost use Rattle.frames.specs.Kinds.{headerDigits, jobDigits};
-ghost use Rattle.frames.specs.HeaderFrame.{headerAt, headerFault};
+ghost use Rattle.frames.specs.Fields.{headerAt};
+ghost use Rattle.faults.specs.HeaderFault.{headerFault};
 ghost use Rattle.refusals.specs.Places.{jobLine};
 ghost use Rattle.refusals.specs.Refused.{jobsRefusal, refusalOf};
 
@@ -35,7 +36,7 @@ fn jobs_refusal(h: Header, text: &[u8]) -> Refusal
     let n = h.n;
     let mut j = 0;
     while j < n {
-        let f = frames::job_fault(h, text, j, job_place(h, j));
+        let f = faults::job_fault(h, text, j, job_place(h, j));
         if f != 0 {
             return Refusal::new(f, job_line(h, j));
         }
@@ -46,7 +47,7 @@ fn jobs_refusal(h: Header, text: &[u8]) -> Refusal
         return Refusal::new(f, job_line(h, n));
     }
     let t = h.t;
-    if frames::waits_in(text, job_place(h, t), h.s) == 0 {
+    if faults::waits_in(text, job_place(h, t), h.s) == 0 {
         return Refusal::new(18, job_line(h, t));
     }
     Refusal::new(0, 0)
@@ -65,7 +66,7 @@ pub fn first_refusal(text: &[u8], rows: usize, costs: usize) -> Refusal
     if 4096 < text.len() {
         return Refusal::new(9, 0);
     }
-    let f = frames::header_fault(text, 0);
+    let f = faults::header_fault(text, 0);
     if f != 0 {
         return Refusal::new(f, 1);
     }

@@ -2,3 +2,4 @@ pub mod BackLaws
 pub mod DigitLaws
 pub mod LineLaws
 pub mod SpellLaws
+pub mod Unique

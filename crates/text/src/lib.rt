@@ -11,7 +11,7 @@ ghost use Rattle.text.specs.Line.{lineAt, badLine};
 ghost use Rattle.text.specs.Spell.{spelt, spell};
 
 // Whether a byte is a digit, 0-9 or A-F.
-pub fn is_digit(c: u8) -> bool
+fn is_digit(c: u8) -> bool
     ensures { λ r. ⌜ r ≡ isDigit c ⌝ }
 {
     if c < 48 {
@@ -30,7 +30,7 @@ pub fn is_digit(c: u8) -> bool
 }
 
 // What a digit is worth, 0 for any other byte.
-pub fn digit_value(c: u8) -> u8
+fn digit_value(c: u8) -> u8
     ensures { λ r. ⌜ r ≡ digit c ⌝ }
 {
     if c < 48 {
@@ -49,7 +49,7 @@ pub fn digit_value(c: u8) -> u8
 }
 
 // The byte of the text at a place, 0 behind its end.
-pub fn char_at(text: &[u8], at: usize) -> u8
+fn char_at(text: &[u8], at: usize) -> u8
     ensures { λ r. ⌜ r ≡ getD (now (text .entry)) at 0 ⌝ }
 {
     if at < text.len() {
@@ -121,7 +121,7 @@ pub fn bad_line(text: &[u8], at: usize, bytes: usize) -> bool
 }
 
 // The digit worth d.
-pub fn digit_of(d: u8) -> u8
+fn digit_of(d: u8) -> u8
     requires { ⌜ d < 16 ⌝ }
     ensures { λ r. ⌜ r ≡ spelt d ⌝ }
 {

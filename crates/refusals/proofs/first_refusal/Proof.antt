@@ -8,7 +8,7 @@ use Rattle.refusals.proofs.first_refusal.Reads as reads
 use Rattle.refusals.proofs.first_refusal.Lts as lts
 use Rattle.frames.proofs.Header.read.Reads as read-reads
 use Rattle.frames.proofs.Refusal.new.Reads as new-reads
-use Rattle.frames.proofs.header_fault.Reads as header-fault-reads
+use Rattle.faults.proofs.header_fault.Reads as header-fault-reads
 use Rattle.refusals.proofs.jobs_refusal.Reads as jobs-refusal-reads
 
 new-requires : tie.Need-new-requires

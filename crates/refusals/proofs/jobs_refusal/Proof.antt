@@ -9,8 +9,8 @@ use Rattle.refusals.proofs.jobs_refusal.Reads as reads
 use Rattle.refusals.proofs.jobs_refusal.Lts as lts
 use Rattle.cursor.proofs.further_at.Reads as further-at-reads
 use Rattle.frames.proofs.Refusal.new.Reads as new-reads
-use Rattle.frames.proofs.job_fault.Reads as job-fault-reads
-use Rattle.frames.proofs.waits_in.Reads as waits-in-reads
+use Rattle.faults.proofs.job_fault.Reads as job-fault-reads
+use Rattle.faults.proofs.waits_in.Reads as waits-in-reads
 use Rattle.refusals.proofs.job_line.Reads as job-line-reads
 use Rattle.refusals.proofs.job_place.Reads as job-place-reads
 

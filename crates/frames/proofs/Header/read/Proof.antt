@@ -1,5 +1,5 @@
 -- `frames::Header::read`: field by field.
-use Rattle.frames.specs.HeaderFrame.{headerAt}
+use Rattle.frames.specs.Fields.{headerAt}
 use borrow.Author.Needs.{needs}
 use Rattle.frames.proofs.Header.read.Statement.{statement}
 use Rattle.frames.proofs.Header.read.Tie as tie

@@ -1,5 +1,5 @@
 -- `frames::Job::read`: field by field.
-use Rattle.frames.specs.JobFrame.{jobAt}
+use Rattle.frames.specs.Fields.{jobAt}
 use borrow.Author.Needs.{needs}
 use Rattle.frames.proofs.Job.read.Statement.{statement}
 use Rattle.frames.proofs.Job.read.Tie as tie

@@ -1,15 +1,15 @@
--- `frames::header_fault`: a chain of early returns, one law each.
+-- `faults::header_fault`: a chain of early returns, one law each.
 use mathlib.Core.Path.{sym, _∙_}
 use borrow.Author.Tests.{not-true, not-false}
-use Rattle.frames.proofs.HeaderLaws.{header-frame, header-out, header-right}
+use Rattle.faults.proofs.HeaderLaws.{header-frame, header-out, header-right}
 use borrow.Author.Needs.{needs}
-use Rattle.frames.proofs.header_fault.Statement.{statement}
-use Rattle.frames.proofs.header_fault.Tie as tie
-use Rattle.frames.proofs.header_fault.Reads as reads
-use Rattle.frames.proofs.header_fault.Lts as lts
+use Rattle.faults.proofs.header_fault.Statement.{statement}
+use Rattle.faults.proofs.header_fault.Tie as tie
+use Rattle.faults.proofs.header_fault.Reads as reads
+use Rattle.faults.proofs.header_fault.Lts as lts
 use Rattle.cursor.proofs.frame_at.Reads as frame-at-reads
 use Rattle.frames.proofs.Header.read.Reads as read-reads
-use Rattle.frames.proofs.in_range.Reads as in-range-reads
+use Rattle.faults.proofs.in_range.Reads as in-range-reads
 
 frame-at-requires : tie.Need-frame-at-requires
 frame-at-requires c κs = search needs

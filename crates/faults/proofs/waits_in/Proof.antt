@@ -1,14 +1,14 @@
--- `frames::waits_in`. Invariant: the waits at the first p pools are counted.
+-- `faults::waits_in`. Invariant: the waits at the first p pools are counted.
 use mathlib.Core.Path.{_≡_, sym, _∙_}
 use mathlib.Core.Logic.{⊎-elim}
 use Prim.Native.Nat.{_≤_, _-_, zero-le}
 use native.Mathlib.Omega.{arith}
-use Rattle.frames.specs.JobFrame.{waitsIn}
-use Rattle.frames.proofs.JobLaws.{waits-none, waits-on, waits-off, waits-small}
-use Rattle.frames.proofs.waits_in.Statement.{statement}
-use Rattle.frames.proofs.waits_in.Tie as tie
-use Rattle.frames.proofs.waits_in.Reads as reads
-use Rattle.frames.proofs.waits_in.Lts as lts
+use Rattle.faults.specs.JobFault.{waitsIn}
+use Rattle.faults.proofs.JobLaws.{waits-none, waits-on, waits-off, waits-small}
+use Rattle.faults.proofs.waits_in.Statement.{statement}
+use Rattle.faults.proofs.waits_in.Tie as tie
+use Rattle.faults.proofs.waits_in.Reads as reads
+use Rattle.faults.proofs.waits_in.Lts as lts
 use Rattle.text.proofs.byte_at.Reads as byte-at-reads
 
 abbrev Inv-loop : tie.InvT-loop

@@ -11,9 +11,10 @@ use borrow.Author.Tests.{le-ltb, lt-ltb, le-leb, lt-leb}
 use Rattle.cursor.specs.Order.{_then_, _when_}
 use Rattle.cursor.specs.Frame.{frameFault}
 use Rattle.cursor.proofs.OrderLaws.{then-first}
 use Rattle.frames.specs.declared.Header.{Header}
 use Rattle.frames.specs.Kinds.{headerKind, headerDigits}
-use Rattle.frames.specs.HeaderFrame.{headerAt, inRange, headerFault}
+use Rattle.frames.specs.Fields.{headerAt}
+use Rattle.faults.specs.HeaderFault.{inRange, headerFault}
 
 module _ (h : Header) where
   pub a-low : h .a < 1 → inRange h ≡ false

@@ -1,17 +1,17 @@
--- `frames::job_fault`: a chain of early returns, one law each.
+-- `faults::job_fault`: a chain of early returns, one law each.
 use mathlib.Core.Path.{sym, _∙_}
-use Rattle.frames.proofs.JobLaws.{frame-is, job-frame, job-fields, job-above, job-twice, job-right}
+use Rattle.faults.proofs.JobLaws.{frame-is, job-frame, job-fields, job-above, job-twice, job-right}
 use borrow.Author.Needs.{needs}
-use Rattle.frames.proofs.job_fault.Statement.{statement}
-use Rattle.frames.proofs.job_fault.Tie as tie
-use Rattle.frames.proofs.job_fault.Reads as reads
-use Rattle.frames.proofs.job_fault.Lts as lts
+use Rattle.faults.proofs.job_fault.Statement.{statement}
+use Rattle.faults.proofs.job_fault.Tie as tie
+use Rattle.faults.proofs.job_fault.Reads as reads
+use Rattle.faults.proofs.job_fault.Lts as lts
 use Rattle.cursor.proofs.frame_at.Reads as frame-at-reads
 use Rattle.frames.proofs.Job.digits.Reads as digits-reads
 use Rattle.frames.proofs.Job.read.Reads as read-reads
-use Rattle.frames.proofs.fields_fault.Reads as fields-fault-reads
-use Rattle.frames.proofs.state_above.Reads as state-above-reads
-use Rattle.frames.proofs.waits_in.Reads as waits-in-reads
+use Rattle.faults.proofs.fields_fault.Reads as fields-fault-reads
+use Rattle.faults.proofs.state_above.Reads as state-above-reads
+use Rattle.faults.proofs.waits_in.Reads as waits-in-reads
 
 digits-requires : tie.Need-digits-requires
 digits-requires c κs = search needs

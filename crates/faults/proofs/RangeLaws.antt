@@ -21,11 +21,13 @@ use Rattle.text.specs.Line.{lineAt}
 use Rattle.cursor.specs.Order.{_then_, _when_}
 use Rattle.cursor.proofs.OrderLaws.{then-zero, when-zero, frame-length}
 use Rattle.ticks.specs.Costs.{ageOf}
 use Rattle.frames.specs.declared.Header.{Header}
 use Rattle.frames.specs.declared.Job.{Job}
 use Rattle.frames.specs.Kinds.{headerKind, headerDigits, jobKind, jobDigits}
-use Rattle.frames.specs.HeaderFrame.{headerAt, inRange, headerFault}
-use Rattle.frames.specs.JobFrame.{jobAt, ageFault, operationsFault, fieldsFault, stateAbove, waitsIn, jobFault}
+use Rattle.frames.specs.Fields.{headerAt}
+use Rattle.faults.specs.HeaderFault.{inRange, headerFault}
+use Rattle.frames.specs.Fields.{jobAt}
+use Rattle.faults.specs.JobFault.{ageFault, operationsFault, fieldsFault, stateAbove, waitsIn, jobFault}
 
 and-true : (a b : Bool) → (a && b) ≡ true → (a ≡ true) × (b ≡ true)
 and-true true b e = (refl, e)

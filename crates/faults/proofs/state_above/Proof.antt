@@ -1,14 +1,14 @@
--- `frames::state_above`. Invariant: none of the first p states is above 02.
+-- `faults::state_above`. Invariant: none of the first p states is above 02.
 use mathlib.Core.Path.{_≡_, sym}
 use mathlib.Core.Bool.{false}
 use Prim.Native.Nat.{_≤_, _-_, zero-le}
 use native.Mathlib.Omega.{arith}
-use Rattle.frames.specs.JobFrame.{stateAbove}
-use Rattle.frames.proofs.JobLaws.{above-none, above-more, above-bad}
-use Rattle.frames.proofs.state_above.Statement.{statement}
-use Rattle.frames.proofs.state_above.Tie as tie
-use Rattle.frames.proofs.state_above.Reads as reads
-use Rattle.frames.proofs.state_above.Lts as lts
+use Rattle.faults.specs.JobFault.{stateAbove}
+use Rattle.faults.proofs.JobLaws.{above-none, above-more, above-bad}
+use Rattle.faults.proofs.state_above.Statement.{statement}
+use Rattle.faults.proofs.state_above.Tie as tie
+use Rattle.faults.proofs.state_above.Reads as reads
+use Rattle.faults.proofs.state_above.Lts as lts
 use Rattle.text.proofs.byte_at.Reads as byte-at-reads
 
 abbrev Inv-loop : tie.InvT-loop

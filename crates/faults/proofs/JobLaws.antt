@@ -28,10 +28,11 @@ use Rattle.cursor.proofs.OrderLaws.{then-first, then-second}
 use Rattle.ticks.specs.declared.Ticks.{Ticks}
 use Rattle.ticks.specs.declared.Operations.{Operations}
 use Rattle.ticks.specs.Costs.{ageOf}
 use Rattle.frames.specs.declared.Header.{Header}
 use Rattle.frames.specs.declared.Job.{Job}
 use Rattle.frames.specs.Kinds.{jobKind, jobDigits}
-use Rattle.frames.specs.JobFrame.{jobAt, stateByte, ageFault, operationsFault, fieldsFault, stateAbove, waitsIn, jobFault}
+use Rattle.frames.specs.Fields.{jobAt, stateByte}
+use Rattle.faults.specs.JobFault.{ageFault, operationsFault, fieldsFault, stateAbove, waitsIn, jobFault}
 
 module _ (present issue g : Ticks) (e : g ≡ ageOf present issue) where
   pub age-old : 2 ^ 31 ≤ g .0 → ageFault present issue ≡ 15

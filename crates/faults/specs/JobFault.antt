@@ -1,7 +1,5 @@
--- The job frame (document 01, "Frames") and what refuses it: "the fields from left to right, then 17".
+-- What refuses a job frame (document 01, the refusal table): "the fields from left to right, then 17".
 --
---   jobAt text at                the job frame, up to its pool states, that the digits at a place spell
---   stateByte text at p          its state byte of pool p
 --   ageFault, operationsFault    what refuses its ticks, and its N
 --   fieldsFault h due job        what refuses its fields where the next job is `due`
 --   stateAbove text at s         one of its states at s pools is above 02
@@ -9,31 +7,20 @@
 --   jobFault h text due at       what refuses the line at a place as the frame of job `due`; 0 where nothing does
 use mathlib.Core.Bool.{Bool, not, _||_}
 use mathlib.Core.List.{List}
-use Prim.Native.Nat.{ℕ, _+_, _*_, _^_}
+use Prim.Native.Nat.{ℕ, _^_}
 use lib.Dec.{leb, ltb, eqb}
 use Rattle.sums.specs.Tests.{any}
 use Rattle.sums.specs.Sum.{count}
 use Rattle.graph.specs.Pools.{isWaiting}
-use Rattle.text.specs.Digits.{byteAt, number}
 use Rattle.cursor.specs.Order.{_when_, _then_}
 use Rattle.cursor.specs.Frame.{frameFault}
 use Rattle.ticks.specs.declared.Ticks.{Ticks}
 use Rattle.ticks.specs.declared.Operations.{Operations}
 use Rattle.ticks.specs.Costs.{ageOf}
 use Rattle.frames.specs.declared.Header.{Header}
 use Rattle.frames.specs.declared.Job.{Job}
 use Rattle.frames.specs.Kinds.{jobKind, jobDigits}
-
--- "02, job number (1), issue tick (4), N (4), then a byte per pool"
-unfoldable pub jobAt : List ℕ → ℕ → Job
-jobAt text at = record {
-  number = byteAt text (at + 2);
-  issue = record { 0 = number text (at + 4) 4 };
-  operations = record { 0 = number text (at + 12) 4 };
-}
-
-unfoldable pub stateByte : List ℕ → ℕ → ℕ → ℕ
-stateByte text at p = byteAt text (at + 20 + 2 * p)
+use Rattle.frames.specs.Fields.{jobAt, stateByte}
 
 -- 15: "the age is 2^31 or more"
 unfoldable pub ageFault : Ticks → Ticks → ℕ
