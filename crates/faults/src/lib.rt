@@ -2,9 +2,10 @@
 //
 // `header_fault` and `job_fault` give the first refusal of one line, in the order of the document: 10, 11, then the fields
 // from left to right, then 17. 0: nothing refuses it.
-use frames::{Header, Job};
-use ticks::{Operations, Ticks};
-
+use frames::Header;
+use frames::Job;
+use ticks::Operations;
+use ticks::Ticks;
 ghost use mathlib.Core.Path.{_≡_};
 ghost use Prim.Native.Nat.{_+_, _*_, _^_, _<_};
 ghost use Rattle.frames.specs.Kinds.{headerDigits, jobDigits};

@@ -2,8 +2,8 @@
 //
 // Each frame type owns its kind byte and its digit count, and is made by its constructor: a header and a job frame out of
 // the digits at a place of a text, an answer and a refusal out of their fields.
-use ticks::{Operations, Ticks};
-
+use ticks::Operations;
+use ticks::Ticks;
 ghost use mathlib.Core.Path.{_≡_};
 ghost use Prim.Native.Nat.{_+_, _*_, _^_, _<_};
 ghost use Rattle.frames.specs.Kinds.{headerDigits, jobDigits};
@@ -44,6 +44,7 @@ pub struct Refusal {
 
 impl Header {
     pub const KIND: u8 = 1;
+
     pub const DIGITS: usize = 32;
 
     // The header that the digits at a place spell.
@@ -89,6 +90,7 @@ impl Job {
 
 impl Answer {
     pub const KIND: u8 = 3;
+
     pub const DIGITS: usize = 44;
 
     // The answer with these fields.
@@ -106,6 +108,7 @@ impl Answer {
 
 impl Refusal {
     pub const KIND: u8 = 15;
+
     pub const DIGITS: usize = 8;
 
     // Refusal `number` at `line`.

@@ -1,8 +1,8 @@
 // The lines that are written: an answer or a refusal, as digits and a line feed.
 //
 // Each function writes its line at the front of a lent list and leaves the rest of the list as it was.
-use frames::{Answer, Refusal};
-
+use frames::Answer;
+use frames::Refusal;
 ghost use mathlib.Core.Path.{_≡_};
 ghost use mathlib.Core.List.{_++_};
 ghost use Prim.Native.Nat.{_+_, _≤_};

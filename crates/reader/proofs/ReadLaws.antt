@@ -63,10 +63,11 @@ read-unique t rows costs r₁ c₁ r₂ c₂ s₁ s₂ a b = go (ℕ-discrete (s
     go (yes z) =
         let y : s₂ .refusal .number ≡ 0 = ap (λ (x : Refusal). x .number) (sym same) ∙ z in
         let p = a .header z in
-        let q = b .header y in
-        (filled-unique (RowOf h t) (row-unique h t) (h .n) rows r₁ r₂ (a .rowed z) (b .rowed y),
-        filled-unique (CostOf h t) (cost-unique h t) (h .n) costs c₁ c₂ (a .priced z) (b .priced y),
-        whole (p .0 ∙ sym (q .0)) (p .1 ∙ sym (q .1)) (p .2 ∙ sym (q .2)))
+        let q = b .header y in (
+          filled-unique (RowOf h t) (row-unique h t) (h .n) rows r₁ r₂ (a .rowed z) (b .rowed y),
+          filled-unique (CostOf h t) (cost-unique h t) (h .n) costs c₁ c₂ (a .priced z) (b .priced y),
+          whole (p .0 ∙ sym (q .0)) (p .1 ∙ sym (q .1)) (p .2 ∙ sym (q .2)),
+        )
     go (no n) =
         let m : (s₂ .refusal .number ≡ 0 → ⊥) = λ y. n (ap (λ (x : Refusal). x .number) same ∙ y) in
         let p = a .kept n in

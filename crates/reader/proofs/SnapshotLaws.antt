@@ -75,7 +75,7 @@ unfolding CostOf
 taken-fits t rows costs rows′ costs′ ok p q =
     let w = taken-whole t ok in
     let cost : (j : ℕ) → j < headerAt t 0 .n → (1 ≤ getD costs′ j 0) × (getD costs′ j 0 ≤ 2 ^ 42) =
-        λ j l. let c = cost-range (headerAt t 0) t j (w .ranged) (w .sound j l) in rw (q .each j l) c in
+    λ j l. let c = cost-range (headerAt t 0) t j (w .ranged) (w .sound j l) in rw (q .each j l) c in
     record {
       jobs = w .ranged .n;
       known = λ j k l b. row-known (headerAt t 0) t j (getD rows′ j 0) (p .each j l) k b;

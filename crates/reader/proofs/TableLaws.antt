@@ -59,8 +59,8 @@ module _ (t : List ℕ) (at s : ℕ) (d : List ℕ) (from : ℕ) where
         let z : p + 1 ≡ suc p = omega arith in
         let y : from + suc p ≡ from + p + 1 = omega arith in
         let n : length (take from d ++ frameStates t at p) ≡ from + p =
-            let f : from ≤ length d = omega arith in
-            omega (arith, length-append (take from d) (frameStates t at p), length-take-le from d f, frame-size t at p) in
+        let f : from ≤ length d = omega arith in
+        omega (arith, length-append (take from d) (frameStates t at p), length-take-le from d f, frame-size t at p) in
         record {
           inside = omega arith;
           size = length-set l (from + p) v ∙ w .size;
@@ -144,7 +144,7 @@ state-is h t (suc n) j p a b = go (state-is h t n j p) (ℕ-discrete j n)
     go ih (no m) =
         let k : suc j ≤ n = omega arith in
         let q : j * h .s + p < length (statesOf h t n) =
-            let z = states-size h t n in
-            let r : suc j * h .s ≤ n * h .s = mul-le-mul k (let v : h .s ≤ h .s = omega arith in v) in
-            omega (arith, z, r) in
+        let z = states-size h t n in
+        let r : suc j * h .s ≤ n * h .s = mul-le-mul k (let v : h .s ≤ h .s = omega arith in v) in
+        omega (arith, z, r) in
         List·getD-append (statesOf h t n) (frameStates t (jobPlace h t n) (h .s)) 0 (j * h .s + p) q ∙ ih (omega arith) b

@@ -3,8 +3,9 @@
 // `read` takes the text and lends two lists. Where nothing refuses the text it gives n, T and the allowance, and fills
 // the first n places of each list: the row of each job, by the graph layer's rule on the pool states, and its cost.
 // Where something does, it gives the refusal with its line and writes nothing.
-use frames::{Header, Job, Refusal};
-
+use frames::Header;
+use frames::Job;
+use frames::Refusal;
 ghost use mathlib.Core.Path.{_≡_};
 ghost use mathlib.Core.List.{_++_};
 ghost use Prim.Native.Nat.{_+_, _*_, _^_, _≤_, _<_};

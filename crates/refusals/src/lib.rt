@@ -2,8 +2,8 @@
 //
 // `first_refusal` gives the number and the line by the reader's rule: 3, then 9, both with line 0; then line by line 10,
 // 11, the fields from left to right, 17; then a further line; then 18. Number 0: the text is taken.
-use frames::{Header, Refusal};
-
+use frames::Header;
+use frames::Refusal;
 ghost use mathlib.Core.Path.{_≡_};
 ghost use Prim.Native.Nat.{_+_, _*_, _≤_};
 ghost use Rattle.frames.specs.Kinds.{headerDigits, jobDigits};

@@ -47,9 +47,9 @@ number-back (suc k) t at x h =
     let a : 2 * suc k - suc (2 * k) ≡ 1 = omega arith in
     let b : 2 * suc k - suc (2 * k + 1) ≡ 0 = omega arith in
     let f : digit (getD t (at + 2 * k) 0) ≡ x / 16 % 16 =
-        ap digit (h (2 * k) (omega arith)) ∙ digit-spelt (x / 16 ^ (2 * suc k - suc (2 * k)) % 16) (mod-lt _ (lit< tt)) .1 ∙ ap (λ (e : ℕ). x / 16 ^ e % 16) a in
+    ap digit (h (2 * k) (omega arith)) ∙ digit-spelt (x / 16 ^ (2 * suc k - suc (2 * k)) % 16) (mod-lt _ (lit< tt)) .1 ∙ ap (λ (e : ℕ). x / 16 ^ e % 16) a in
     let g : digit (getD t (at + 2 * k + 1) 0) ≡ x % 16 =
-        ap (λ (e : ℕ). digit (getD t e 0)) (omega arith)
-        ∙ ap digit (h (2 * k + 1) (omega arith)) ∙ digit-spelt (x / 16 ^ (2 * suc k - suc (2 * k + 1)) % 16) (mod-lt _ (lit< tt)) .1 ∙ ap (λ (e : ℕ). x / 16 ^ e % 16) b ∙ ap (λ (e : ℕ). e % 16) (div-one x) in
+    ap (λ (e : ℕ). digit (getD t e 0)) (omega arith)
+    ∙ ap digit (h (2 * k + 1) (omega arith)) ∙ digit-spelt (x / 16 ^ (2 * suc k - suc (2 * k + 1)) % 16) (mod-lt _ (lit< tt)) .1 ∙ ap (λ (e : ℕ). x / 16 ^ e % 16) b ∙ ap (λ (e : ℕ). e % 16) (div-one x) in
     let m = mod-mul x {m = 256 ^ k} {c = 256} (one-le-pow k 256 (lit< tt)) (lit< tt) in
     rw (pow-suc 256 k, m, ih, f, g) (omega arith)
