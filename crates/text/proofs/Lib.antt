@@ -1,0 +1,5 @@
+pub mod BackLaws
+pub mod DigitLaws
+pub mod LineLaws
+pub mod SpellLaws
+pub mod Unique

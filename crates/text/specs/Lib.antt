@@ -1,0 +1,4 @@
+pub mod Tests
+pub mod Digits
+pub mod Line
+pub mod Spell
