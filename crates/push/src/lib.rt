@@ -1,6 +1,17 @@
-// One round's amount and its push, up the parents that the search has left.
+ghost use mathlib.Core.Path.{_≡_};
+ghost use Rattle.push.specs.Reading.{reads, Readable};
+ghost use Rattle.push.specs.Advance.{Shiftable, Shifted, Markable, withStep, withoutStep, Advanceable, Advanced};
+ghost use Rattle.push.specs.Way.{Measurable, Amount, Pushable, PushedAlong};
 
-fn room(costs: &[u64], wide: u64, work: &[u64], thru: &[u64; 64], a: usize, b: usize) -> u64 {
+// One round's amount and its push, up the parents that the search has left.
+// The flow on the waits is in the work list, the flow through each job in `thru`, and `steps` has the masks of the steps with room.
+// Both public functions say what they give in terms of these lists; `flow` turns that into rooms and rounds.
+
+// The room of the step from node a to node b.
+fn room(costs: &[u64], wide: u64, work: &[u64], thru: &[u64; 64], a: usize, b: usize) -> u64
+    requires { ⌜ Readable (now costs) wide (now work) (now thru) a b ⌝ }
+    ensures { λ r. ⌜ r ≡ reads (now (costs .entry)) wide (now (work .entry)) (now (thru .entry)) a b ⌝ }
+{
     let n = costs.len();
     let u = a / 2;
     let v = b / 2;
@@ -18,7 +29,11 @@ fn room(costs: &[u64], wide: u64, work: &[u64], thru: &[u64; 64], a: usize, b: u
     work[p]
 }
 
-fn shift(n: usize, work: &mut [u64], thru: &mut [u64; 64], a: usize, b: usize, d: u64) {
+// d more on the arc from node a to node b, or d less on the arc back.
+fn shift(n: usize, work: &mut [u64], thru: &mut [u64; 64], a: usize, b: usize, d: u64)
+    requires { ⌜ Shiftable n (now work) (now thru) a b d ⌝ }
+    ensures { λ _. ⌜ Shifted n a b d (now (work .entry)) (now (thru .entry)) (now (work .exit)) (now (thru .exit)) ⌝ }
+{
     let u = a / 2;
     let v = b / 2;
     if u == v {
@@ -38,14 +53,23 @@ fn shift(n: usize, work: &mut [u64], thru: &mut [u64; 64], a: usize, b: usize, d
     work[p] = work[p] - d;
 }
 
-fn mark(steps: &mut [u64; 128], a: usize, b: usize) {
+// The step from a to b has room.
+fn mark(steps: &mut [u64; 128], a: usize, b: usize)
+    requires { ⌜ Markable a b (now steps) ⌝ }
+    ensures { λ _. ⌜ now (steps .exit) ≡ withStep (now (steps .entry)) a b ⌝ }
+{
     steps[a] = steps[a] | (1u64 << (b / 2));
 }
 
-fn unmark(steps: &mut [u64; 128], a: usize, b: usize) {
+// The step from a to b, which had room, has none.
+fn unmark(steps: &mut [u64; 128], a: usize, b: usize)
+    requires { ⌜ Markable a b (now steps) ⌝ }
+    ensures { λ _. ⌜ now (steps .exit) ≡ withoutStep (now (steps .entry)) a b ⌝ }
+{
     steps[a] = steps[a] ^ (1u64 << (b / 2));
 }
 
+// d pushed along the step from a to b.
 fn advance(
     costs: &[u64],
     wide: u64,
@@ -55,7 +79,10 @@ fn advance(
     a: usize,
     b: usize,
     d: u64,
-) {
+)
+    requires { ⌜ Advanceable (now costs) wide (now work) (now thru) (now steps) a b d ⌝ }
+    ensures { λ _. ⌜ Advanced (now (costs .entry)) wide a b d (now (work .entry)) (now (thru .entry)) (now (steps .entry)) (now (work .exit)) (now (thru .exit)) (now (steps .exit)) ⌝ }
+{
     let x = room(costs, wide, work, thru, a, b);
     shift(costs.len(), work, thru, a, b, d);
     if x == d {
@@ -64,6 +91,7 @@ fn advance(
     mark(steps, b, a);
 }
 
+// The largest amount that every step of the way from place e up the parents allows.
 pub fn amount(
     costs: &[u64],
     wide: u64,
@@ -72,7 +100,10 @@ pub fn amount(
     queue: &[u8; 128],
     parent: &[u8; 128],
     e: usize,
-) -> u64 {
+) -> u64
+    requires { ⌜ Measurable (now costs) wide (now work) (now thru) (now queue) (now parent) e ⌝ }
+    ensures { λ r. ⌜ Amount (now (costs .entry)) wide (now (work .entry)) (now (thru .entry)) (now (queue .entry)) (now (parent .entry)) e r ⌝ }
+{
     let mut i = parent[e] as usize;
     let v = queue[e] as usize;
     let u = queue[i] as usize;
@@ -90,6 +121,7 @@ pub fn amount(
     d
 }
 
+// d pushed along the way from place e up the parents.
 pub fn push(
     costs: &[u64],
     wide: u64,
@@ -100,7 +132,10 @@ pub fn push(
     parent: &[u8; 128],
     e: usize,
     d: u64,
-) {
+)
+    requires { ⌜ Pushable (now costs) wide (now work) (now thru) (now steps) (now queue) (now parent) e d ⌝ }
+    ensures { λ _. ⌜ PushedAlong (now (costs .entry)) wide (now (work .entry)) (now (thru .entry)) (now (steps .entry)) (now (queue .entry)) (now (parent .entry)) e d (now (work .exit)) (now (thru .exit)) (now (steps .exit)) ⌝ }
+{
     let mut i = e;
     while i != 0 {
         let p = parent[i] as usize;

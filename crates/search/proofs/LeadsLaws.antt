@@ -2,6 +2,7 @@
 -- Assumes nothing.
 --
 --   leads-same      the parents lead along one list of nodes
+--   leads-top       from place 0 there is no way to go
 --   leads-up        where i is not place 0: the way from its parent, and i's node behind it
 --   path-found      a search that has met the sink leaves the path that a round takes
 --   sought-unique   two results of a search: both say that no path is left, or both leave the same path
@@ -27,16 +28,16 @@ pub leads-up : (qs ps : List ℕ) (i : ℕ) (p : List ℕ) → Leads qs ps i p �
 leads-up qs ps i p source n = absurd (n refl)
 leads-up qs ps i p (onward {p = q} pos l w) n = (l, (q, w, refl))
 
-top : (qs ps : List ℕ) (i : ℕ) (p : List ℕ) → Leads qs ps i p → i ≡ 0 → p ≡ []
-top qs ps i p source z = refl
-top qs ps i p (onward pos l w) z = absurd (omega arith)
+pub leads-top : (qs ps : List ℕ) (i : ℕ) (p : List ℕ) → Leads qs ps i p → i ≡ 0 → p ≡ []
+leads-top qs ps i p source z = refl
+leads-top qs ps i p (onward pos l w) z = absurd (omega arith)
 
 same : (qs ps : List ℕ) (f i : ℕ) (p q : List ℕ) → i ≤ f → Leads qs ps i p → Leads qs ps i q → p ≡ q
-same qs ps zero i p q l v w = top qs ps i p v (omega arith) ∙ sym (top qs ps i q w (omega arith))
+same qs ps zero i p q l v w = leads-top qs ps i p v (omega arith) ∙ sym (leads-top qs ps i q w (omega arith))
 same qs ps (suc f) i p q l v w = go (ℕ-discrete i 0) (λ a b h. same qs ps f (at ps i) a b h)
   where
     go : Dec (i ≡ 0) → ((a b : List ℕ) → at ps i ≤ f → Leads qs ps (at ps i) a → Leads qs ps (at ps i) b → a ≡ b) → p ≡ q
-    go (yes z) rec = top qs ps i p v z ∙ sym (top qs ps i q w z)
+    go (yes z) rec = leads-top qs ps i p v z ∙ sym (leads-top qs ps i q w z)
     go (no z) rec =
         let a = leads-up qs ps i p v z in
         let b = leads-up qs ps i q w z in
