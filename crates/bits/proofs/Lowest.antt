@@ -4,14 +4,17 @@
 --   trailing-has    it is set, and below the width
 --   trailing-least  none that is set is lower
 --   and-pred        x & (x - 1) is x without it
+--   shifted-none, shifted-some, has-below   what x holds from n on: `x >> n`
 use mathlib.Core.Path.{_≡_, refl, sym, ap, _∙_, subst}
 use Prim.Native.Nat.{ℕ, zero, suc, _+_, _-_, _*_, _/_, _%_, _^_, _≤_, _<_, zero-le, suc-le-suc}
-use native.Mathlib.Nat.{pow-suc}
+use native.Mathlib.Nat.{pow-suc, div-le-self, div-eq-of-lt}
+use native.Mathlib.Decide.{decLt}
 use native.Mathlib.Omega.{arith}
+use lib.Pow.{shr-shr}
 use lib.Bits.{bitAnd, bitXor, differ, and-step, xor-step, and-self, xor-zero-r}
 use lib.Count.{trailingZeros, under}
 use Rattle.bits.specs.Mask.{bit, Has}
-use Rattle.bits.proofs.Digits.{bit-here, bit-suc, half-lt}
+use Rattle.bits.proofs.Digits.{bit-here, bit-suc, bit-zero, half-lt}
 
 pub trailing-has : (k x : ℕ) → x < 2 ^ k → (x ≡ 0 → ⊥) → Has x (trailingZeros k x) × (trailingZeros k x < k)
 unfolding trailingZeros
@@ -71,3 +74,32 @@ and-pred (suc k) x h n = go (x % 2) refl (and-pred k (x / 2) (omega (arith, pow-
       where
         both : (a : ℕ) → a ≡ 1 → differ a 1 ≡ 0
         both a f = rw f refl
+
+-- ---- the digits from n on: x >> n
+
+bit-from : (x n k : ℕ) → bit (x / 2 ^ n) k ≡ bit x (n + k)
+unfolding bit
+bit-from x n k = ap (λ (z : ℕ). z % 2) (shr-shr x n k)
+
+-- where x >> n is 0, x holds only numbers below n
+pub shifted-none : (x n i : ℕ) → x / 2 ^ n ≡ 0 → Has x i → i < n
+shifted-none x n i e h = go (decLt i n)
+  where
+    go : Dec (i < n) → i < n
+    go (yes l) = l
+    go (no l) =
+        let q : n + (i - n) ≡ i = omega arith in
+        let z : bit x i ≡ 0 = ap (bit x) (sym q) ∙ sym (bit-from x n (i - n)) ∙ ap (λ (y : ℕ). bit y (i - n)) e ∙ bit-zero (i - n) in
+        absurd (omega (arith, z, h))
+
+-- where it is not, x holds some number from n on
+pub shifted-some : (x n : ℕ) → x < 2 ^ 64 → (x / 2 ^ n ≡ 0 → ⊥) → (i : ℕ) × Has x i × (n ≤ i)
+shifted-some x n l ne =
+    let k = trailingZeros 64 (x / 2 ^ n) in
+    let small : x / 2 ^ n < 2 ^ 64 = omega (arith, div-le-self x (2 ^ n)) in
+    let h = trailing-has 64 (x / 2 ^ n) small ne in
+    (n + k, sym (bit-from x n k) ∙ h .0, omega arith)
+
+-- a number of k digits holds only numbers below k
+pub has-below : (k x i : ℕ) → x < 2 ^ k → Has x i → i < k
+has-below k x i l h = shifted-none x k i (div-eq-of-lt l) h

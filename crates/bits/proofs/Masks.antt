@@ -8,15 +8,15 @@
 --   has-pow-cases, has-full                what 2 ^ u and 2 ^ j - 1 hold
 --   or-le, or-grows                        a | b as a number
 --   mask-ext, mask-unique                  masks that hold the same are equal; two masks of P are equal
---   mask-same, mask-and                    a mask of what is the same; a mask of both
+--   mask-same, mask-and, mask-or           a mask of what is the same, of both, of one of two
 use mathlib.Core.Path.{_≡_, refl, sym, ap, _∙_, subst}
-use mathlib.Core.Logic.{_⊎_, inl, inr}
+use mathlib.Core.Logic.{_⊎_, inl, inr, ⊎-elim}
 use Prim.Native.Nat.{ℕ, zero, suc, _+_, _-_, _*_, _/_, _%_, _^_, _≤_, _<_, max}
 use native.Mathlib.Nat.{le-of-suc-le-suc, not-suc-le-zero, pow-suc}
 use native.Mathlib.Omega.{arith}
 use native.Mathlib.Decide.{ℕ-discrete}
 use lib.Pow.{pow-pos}
-use lib.Bits.{bitAnd, bitOr, bitXor, differ, or-add-and, and-le-r, and-lt}
+use lib.Bits.{bitAnd, bitOr, bitXor, differ, or-add-and, and-le-r, and-lt, or-lt}
 use lib.Dec.{T, eqb, eqb→eq}
 use Rattle.bits.specs.Mask.{bit, Has, has, MaskOf}
 use Rattle.bits.proofs.Digits.{bit-lt, bit-zero, bit-or, bit-and, bit-xor, bit-here, bit-suc, bit-pow-other, bit-ext}
@@ -143,4 +143,12 @@ mask-and P Q a b p q = record {
   small = and-lt 64 a b (p .small) (q .small);
   sound = λ k h. (p .sound k (has-and a b k h .0), q .sound k (has-and a b k h .1));
   complete = λ k h. and-has a b k (p .complete k (h .0)) (q .complete k (h .1));
+}
+
+-- a | b holds what one of them holds
+pub mask-or : (P Q : ℕ → Type 0) (a b : ℕ) → MaskOf P a → MaskOf Q b → MaskOf (λ (k : ℕ). P k ⊎ Q k) (bitOr a b)
+mask-or P Q a b p q = record {
+  small = or-lt 64 a b (p .small) (q .small);
+  sound = λ k h. ⊎-elim (λ x. inl (p .sound k x)) (λ x. inr (q .sound k x)) (has-or-cases a b k h);
+  complete = λ k h. ⊎-elim (λ x. has-or-l a b k (p .complete k x)) (λ x. has-or-r a b k (q .complete k x)) h;
 }

@@ -6,6 +6,7 @@
 --   blocks w a                a job in state w at a pool waits for a job in state a there
 --   stateAt states s j p      the state of job j at pool p
 --   Table states n s          the list has the states of n jobs at s pools
+--   ActiveAt states n s p i   job i is active at pool p
 --   WaitsFor states n s j i   job j waits for job i
 use mathlib.Core.Bool.{Bool}
 use mathlib.Core.List.{List}
@@ -31,6 +32,10 @@ pub record Table (states : List ℕ) (n s : ℕ) : Type 0 where
   pub jobs : n ≤ 64
   pub pools : s ≤ 16
   pub size : n * s ≤ length states
+
+pub record ActiveAt (states : List ℕ) (n s p i : ℕ) : Type 0 where
+  pub job : i < n
+  pub active : T (isActive (stateAt states s i p))
 
 -- "Job j waits for job i, with j and i different, exactly when at some pool j is waiting and i is active."
 pub record WaitsFor (states : List ℕ) (n s j i : ℕ) : Type 0 where

@@ -1,1 +1,129 @@
-// Who waits for whom.
+// The graph layer: who waits for whom, whom a job reaches, and the rings through a job.
+//
+// `rows_known` says whether the rows name only jobs that are there, `reach` gives exactly the jobs that a job reaches along waits, `turn` for each job exactly those that wait for it,
+// `on_rings` exactly the document's X, `ring_through` whether a ring passes through a job,
+// and `row` exactly the jobs that a job waits for in a table of pool states.
+ghost use Prim.Native.Nat.{_<_, _≤_};
+ghost use lib.ListN.{length};
+ghost use Rattle.bits.specs.Mask.{MaskOf};
+ghost use Rattle.walks.specs.Walk.{Reaches};
+ghost use Rattle.graph.specs.Waits.{waits, Jobs, Known};
+ghost use Rattle.graph.specs.Rings.{InX, RingThrough};
+ghost use Rattle.graph.specs.Turned.{Masks, Added, Turned};
+ghost use Rattle.graph.specs.Pools.{Table, ActiveAt, WaitsFor};
+
+// Whether no row names a job past the end of the list.
+pub fn rows_known(rows: &[u64]) -> bool
+    requires { ⌜ length (now rows) ≤ 64 ⌝ }
+    ensures { λ r. ⌜ Known (now (rows .entry)) r ⌝ }
+{
+    let n = rows.len();
+    let mut u = 0;
+    while u < n {
+        if (rows[u] >> (n - 1)) >> 1 != 0 {
+            return false;
+        }
+        u += 1;
+    }
+    true
+}
+
+// The jobs that `from` reaches by no or more waits.
+pub fn reach(rows: &[u64], from: usize) -> u64
+    requires { ⌜ Jobs (now rows) × (from < length (now rows)) ⌝ }
+    ensures { λ r. ⌜ MaskOf (Reaches (waits (now (rows .entry))) (length (now (rows .entry))) from) r ⌝ }
+{
+    let mut seen = 1u64 << from;
+    let mut done = 0u64;
+    while seen != done {
+        let u = u64::trailing_zeros(seen ^ done) as usize;
+        done |= 1u64 << u;
+        seen |= rows[u];
+    }
+    seen
+}
+
+// Adds job j to the columns of the jobs that its row names.
+fn add_row(row: u64, j: usize, columns: &mut [u64; 64])
+    requires { ⌜ (j < 64) × Masks (now columns) ⌝ }
+    ensures { λ _. ⌜ Added row j (now (columns .entry)) (now (columns .exit)) ⌝ }
+{
+    let mut rest = row;
+    while rest != 0 {
+        let i = u64::trailing_zeros(rest) as usize;
+        columns[i] = columns[i] | (1u64 << j);
+        rest = rest & (rest - 1);
+    }
+}
+
+// The rows turned round: for each job the jobs that wait for it.
+pub fn turn(rows: &[u64]) -> [u64; 64]
+    requires { ⌜ length (now rows) ≤ 64 ⌝ }
+    ensures { λ r. ⌜ Turned (now (rows .entry)) r ⌝ }
+{
+    let mut columns = [0u64; 64];
+    let mut j = 0;
+    while j < rows.len() {
+        add_row(rows[j], j, &mut columns);
+        j += 1;
+    }
+    columns
+}
+
+// The document's X: t with all jobs that lie on a ring through it.
+pub fn on_rings(rows: &[u64], t: usize) -> u64
+    requires { ⌜ Jobs (now rows) × (t < length (now rows)) ⌝ }
+    ensures { λ r. ⌜ MaskOf (InX (waits (now (rows .entry))) (length (now (rows .entry))) t) r ⌝ }
+{
+    let columns = turn(rows);
+    reach(rows, t) & reach(&columns, t)
+}
+
+// Whether a ring passes through t, where x is X.
+pub fn ring_through(rows: &[u64], t: usize, x: u64) -> bool
+    requires { ⌜ t < length (now rows) ⌝ }
+    requires { ⌜ MaskOf (InX (waits (now rows)) (length (now rows)) t) x ⌝ }
+    ensures { λ r. ⌜ RingThrough (waits (now (rows .entry))) (length (now (rows .entry))) t r ⌝ }
+{
+    let next = rows[t] & x;
+    if next != 0 {
+        return true;
+    }
+    false
+}
+
+const ACTIVE: u8 = 1;
+
+const WAITING: u8 = 2;
+
+// The jobs that are active at a pool.
+fn active_at(states: &[u8], n: usize, pools: usize, pool: usize) -> u64
+    requires { ⌜ Table (now states) n pools × (pool < pools) ⌝ }
+    ensures { λ r. ⌜ MaskOf (ActiveAt (now (states .entry)) n pools pool) r ⌝ }
+{
+    let mut mask = 0u64;
+    let mut i = 0;
+    while i < n {
+        if states[i * pools + pool] == ACTIVE {
+            mask |= 1u64 << i;
+        }
+        i += 1;
+    }
+    mask
+}
+
+// The row of `job`: the jobs that it waits for, out of the states of n jobs at `pools` pools.
+pub fn row(states: &[u8], n: usize, pools: usize, job: usize) -> u64
+    requires { ⌜ Table (now states) n pools × (job < n) ⌝ }
+    ensures { λ r. ⌜ MaskOf (WaitsFor (now (states .entry)) n pools job) r ⌝ }
+{
+    let mut mask = 0u64;
+    let mut p = 0;
+    while p < pools {
+        if states[job * pools + p] == WAITING {
+            mask |= active_at(states, n, pools, p);
+        }
+        p += 1;
+    }
+    mask
+}

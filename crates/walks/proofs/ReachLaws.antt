@@ -4,7 +4,7 @@
 --   reach st n t a                       t is reached from a, computed
 --   reach-walk, walk-reach               the test and walks
 --   reach-reaches, reaches-reach         the test and the fact
---   reaches-here, reaches-step, reaches-on, reaches-turned, reaches-in
+--   reaches-here, reaches-step, reaches-on, reaches-trans, reaches-in, reaches-turned
 --   reaches-away, away-unique            what is reached is a definite number of steps away, below N
 use mathlib.Core.Path.{_≡_, refl, sym, ap, _∙_, subst}
 use mathlib.Core.Bool.{Bool}
@@ -78,6 +78,14 @@ reaches-trans st n a b c r q = go a (r .path) (r .walk)
     go : (x : ℕ) (p : List ℕ) → Walk st n x b p → Reaches st n x c
     go x [] e = subst (λ (z : ℕ). Reaches st n z c) (sym e) q
     go x (y ∷ p) w = reaches-step st n x y c (w .0) (w .1) (go y p (w .2))
+
+-- what is reached is below n
+pub reaches-in : (st : ℕ → ℕ → Bool) (n a t : ℕ) → a < n → Reaches st n a t → t < n
+reaches-in st n a t l r = go a l (r .path) (r .walk)
+  where
+    go : (x : ℕ) → x < n → (p : List ℕ) → Walk st n x t p → t < n
+    go x m [] e = subst (λ (z : ℕ). z < n) e m
+    go x m (y ∷ p) w = go y (w .0) p (w .2)
 
 -- where the steps are turned round, so is reaching
 pub reaches-turned : (st back : ℕ → ℕ → Bool) (n m : ℕ) → ((a b : ℕ) → T (st a b) → T (back b a) × (a < m)) → (a t : ℕ) → Reaches st n a t → Reaches back m t a

@@ -1,0 +1,51 @@
+-- Two results that meet the statement of a public function are equal.
+-- Assumes nothing.
+--
+--   rows-known-unique, reach-unique, turn-unique, on-rings-unique, ring-through-unique, row-unique   of the function of that name
+--   reach-away                                                                    the jobs of `reach` are those a definite number of waits away
+use mathlib.Core.Path.{_≡_, refl, sym, _∙_}
+use mathlib.Core.Bool.{Bool, true, false}
+use mathlib.Core.List.{List}
+use Prim.Native.Nat.{ℕ, _<_}
+use native.Mathlib.Omega.{arith}
+use lib.ListN.{length, getD}
+use lib.Seq.{ext-getD}
+use Rattle.bits.specs.Mask.{Has, MaskOf}
+use Rattle.bits.proofs.Masks.{mask-unique}
+use Rattle.walks.specs.Walk.{Reaches, Away}
+use Rattle.walks.proofs.ReachLaws.{reaches-away}
+use Rattle.graph.specs.Waits.{waits, Known}
+use Rattle.graph.specs.Waits.Known.{all, stray}
+use Rattle.graph.specs.Rings.{InX, RingThrough}
+use Rattle.graph.specs.Rings.RingThrough.{some, none}
+use Rattle.graph.specs.Turned.{Turned}
+use Rattle.graph.specs.Pools.{WaitsFor}
+
+pub rows-known-unique : (rows : List ℕ) (a b : Bool) → Known rows a → Known rows b → a ≡ b
+rows-known-unique rows true true p q = refl
+rows-known-unique rows true false (all p) (stray j i w l) = absurd (omega (arith, p j i w, l))
+rows-known-unique rows false true (stray j i w l) (all p) = absurd (omega (arith, p j i w, l))
+rows-known-unique rows false false p q = refl
+
+pub reach-unique : (rows : List ℕ) (from a b : ℕ) → MaskOf (Reaches (waits rows) (length rows) from) a → MaskOf (Reaches (waits rows) (length rows) from) b → a ≡ b
+reach-unique rows from a b = mask-unique _ a b
+
+-- how many waits away each of them is
+pub reach-away : (rows : List ℕ) (from m : ℕ) → from < length rows → MaskOf (Reaches (waits rows) (length rows) from) m
+    → (v : ℕ) → Has m v → (k : ℕ) × (k < length rows) × Away (waits rows) (length rows) from v k
+reach-away rows from m l M v h = reaches-away (waits rows) (length rows) from v l (M .sound v h)
+
+pub turn-unique : (rows a b : List ℕ) → Turned rows a → Turned rows b → a ≡ b
+turn-unique rows a b p q = ext-getD 0 a b (p .size ∙ sym (q .size)) (λ i l. mask-unique _ _ _ (p .column i (omega (arith, p .size))) (q .column i (omega (arith, p .size))))
+
+pub on-rings-unique : (rows : List ℕ) (t a b : ℕ) → MaskOf (InX (waits rows) (length rows) t) a → MaskOf (InX (waits rows) (length rows) t) b → a ≡ b
+on-rings-unique rows t a b = mask-unique _ a b
+
+pub ring-through-unique : (rows : List ℕ) (t : ℕ) (a b : Bool) → RingThrough (waits rows) (length rows) t a → RingThrough (waits rows) (length rows) t b → a ≡ b
+ring-through-unique rows t true true p q = refl
+ring-through-unique rows t true false (some p r) (none q) = absurd (q p r)
+ring-through-unique rows t false true (none q) (some p r) = absurd (q p r)
+ring-through-unique rows t false false p q = refl
+
+pub row-unique : (states : List ℕ) (n s j a b : ℕ) → MaskOf (WaitsFor states n s j) a → MaskOf (WaitsFor states n s j) b → a ≡ b
+row-unique states n s j a b = mask-unique _ a b
