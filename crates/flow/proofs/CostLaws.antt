@@ -1,0 +1,138 @@
+-- The loops of `total_cost` and `inflow`: sums collected term by term.
+-- Assumes nothing.
+--
+--   Totalling costs x rest sum    sum and the costs of the jobs that are still in rest add up to S
+--   total-start, total-job, total-fits, total-turn, total-end
+--   Inflowing work n u v sum      sum is what flows into u from the jobs below v
+--   inflow-start, inflow-place, inflow-fits, inflow-turn, inflow-end
+use mathlib.Core.Path.{_≡_, refl, sym, ap, _∙_, subst}
+use mathlib.Core.Logic.{_⊎_, inl, inr, _≢_}
+use mathlib.Core.List.{List}
+use Prim.Native.Nat.{ℕ, zero, suc, _+_, _-_, _*_, _^_, _<_, _≤_, zero-le}
+use native.Mathlib.Nat.{le-refl, mul-le-mul}
+use native.Mathlib.Numerals.{suc-eq-add-one}
+use native.Mathlib.Decide.{ℕ-discrete}
+use native.Mathlib.Omega.{arith}
+use lib.Arith.{digits-lt}
+use lib.Bits.{bitAnd}
+use lib.Count.{trailingZeros}
+use lib.Dec.{T}
+use lib.ListN.{length, getD}
+use Rattle.bits.specs.Mask.{Has, has}
+use Rattle.bits.proofs.Masks.{has-test, test-has}
+use Rattle.bits.proofs.Rest.{Rest, rest-start, rest-end, rest-low, rest-here, rest-below, rest-less, rest-next, rest-gone, rest-cases}
+use Rattle.sums.specs.Sum.{sum, gate}
+use Rattle.sums.proofs.TestLaws.{T-eq}
+use Rattle.sums.proofs.SumLaws.{gate-on, gate-off, sum-point, sum-zero}
+use Rattle.network.specs.Arcs.{total}
+use Rattle.flow.specs.Accepted.{costOf}
+use Rattle.flow.specs.Inflow.{inflowOf, Summable}
+use Rattle.flow.specs.Inside.{Costed}
+
+pub record Totalling (costs : List ℕ) (x rest acc : ℕ) : Type 0 where
+  pub given : Costed costs x
+  pub rest-part : Rest x rest
+  pub so-far : acc + total (length costs) (has rest) (costOf costs) ≡ total (length costs) (has x) (costOf costs)
+
+pub total-start : (costs : List ℕ) (x : ℕ) → Costed costs x → x < 2 ^ 64 → Totalling costs x x 0
+total-start costs x C l = record { given = C; rest-part = rest-start x l; so-far = omega arith }
+
+module _ (costs : List ℕ) (x rest acc : ℕ) (A : Totalling costs x rest acc) where
+  module _ (some : rest ≢ 0) where
+    pub total-below : trailingZeros 64 rest < 64
+    total-below = rest-below x rest (A .rest-part) some
+
+    pub total-job : trailingZeros 64 rest < length costs
+    total-job = A .given .members (trailingZeros 64 rest) (rest-low x rest (A .rest-part) some)
+
+    pub total-less : bitAnd rest (rest - 1) < rest
+    total-less = rest-less x rest (A .rest-part) some
+
+    -- the lowest job's cost is one term
+    term : total (length costs) (has rest) (costOf costs) ≡ total (length costs) (has (bitAnd rest (rest - 1))) (costOf costs) + costOf costs (trailingZeros 64 rest)
+    unfolding total
+    term = omega (
+      arith,
+      sum-point (length costs) (λ u. gate (has rest u) (costOf costs u)) (λ u. gate (has (bitAnd rest (rest - 1)) u) (costOf costs u))
+          (trailingZeros 64 rest) 0 (costOf costs (trailingZeros 64 rest)) total-job (λ u l ne. ap (λ (b : _). gate b (costOf costs u)) (same u ne)) here,
+    )
+      where
+        u₀ : ℕ
+        u₀ = trailingZeros 64 rest
+
+        same : (u : ℕ) → u ≢ trailingZeros 64 rest → has rest u ≡ has (bitAnd rest (rest - 1)) u
+        same u ne = T-eq (has rest u) (has (bitAnd rest (rest - 1)) u)
+            (λ t. has-test (bitAnd rest (rest - 1)) u (stays (rest-cases x rest (A .rest-part) some u (test-has rest u t))))
+            (λ t. has-test rest u (rest-gone x rest (A .rest-part) some u (test-has (bitAnd rest (rest - 1)) u t) .0))
+          where
+            stays : (u ≡ trailingZeros 64 rest) ⊎ Has (bitAnd rest (rest - 1)) u → Has (bitAnd rest (rest - 1)) u
+            stays (inl e) = absurd (ne e)
+            stays (inr h) = h
+
+        here : gate (has rest (trailingZeros 64 rest)) (costOf costs (trailingZeros 64 rest)) + 0
+            ≡ gate (has (bitAnd rest (rest - 1)) (trailingZeros 64 rest)) (costOf costs (trailingZeros 64 rest)) + costOf costs (trailingZeros 64 rest)
+        here = omega (
+          arith,
+          gate-on (has rest (trailingZeros 64 rest)) (costOf costs (trailingZeros 64 rest)) (has-test rest (trailingZeros 64 rest) (rest-here x rest (A .rest-part) some)),
+          gate-off (has (bitAnd rest (rest - 1)) (trailingZeros 64 rest)) (costOf costs (trailingZeros 64 rest))
+              (λ t. rest-gone x rest (A .rest-part) some (trailingZeros 64 rest) (test-has (bitAnd rest (rest - 1)) (trailingZeros 64 rest) t) .1 refl),
+        )
+
+    pub total-fits : acc + getD costs (trailingZeros 64 rest) 0 < 2 ^ 64
+    unfolding costOf
+    total-fits = omega (arith, A .so-far, term, A .given .bounded)
+
+    pub total-turn : Totalling costs x (bitAnd rest (rest - 1)) (acc + getD costs (trailingZeros 64 rest) 0)
+    unfolding costOf
+    total-turn = record { given = A .given; rest-part = rest-next x rest (A .rest-part) some; so-far = omega (arith, A .so-far, term) }
+
+  pub total-end : rest ≡ 0 → acc ≡ total (length costs) (has x) (costOf costs)
+  unfolding total
+  total-end z = omega (arith, A .so-far, nothing)
+    where
+      nothing : total (length costs) (has rest) (costOf costs) ≡ 0
+      nothing = sum-zero (length costs) (λ u. gate (has rest u) (costOf costs u)) (λ u l. gate-off (has rest u) (costOf costs u) (λ t. rest-end rest u z (test-has rest u t)))
+
+-- ---- what flows into one job
+
+sum-part : (n k : ℕ) (f : ℕ → ℕ) → k ≤ n → sum k f ≤ sum n f
+unfolding sum
+sum-part zero k f l = (let e : 0 ≡ k = omega arith in subst (λ (z : ℕ). sum z f ≤ 0) e zero-le)
+sum-part (suc n) k f l = go (ℕ-discrete k (suc n)) (λ m. sum-part n k f m)
+  where
+    go : Dec (k ≡ suc n) → (k ≤ n → sum k f ≤ sum n f) → sum k f ≤ sum n f + f n
+    go (yes e) rec = subst (λ (z : ℕ). sum k f ≤ z) (ap (λ (z : ℕ). sum z f) e) (le-refl (sum k f))
+    go (no e) rec = omega (arith, rec (omega arith))
+
+pub record Inflowing (work : List ℕ) (n u v acc : ℕ) : Type 0 where
+  pub given : Summable work n u
+  pub jobs : v ≤ n
+  pub so-far : acc ≡ sum v (λ w. getD work (w * n + u) 0)
+
+pub inflow-start : (work : List ℕ) (n u : ℕ) → Summable work n u → Inflowing work n u 0 0
+unfolding sum
+inflow-start work n u G = record { given = G; jobs = zero-le; so-far = refl }
+
+module _ (work : List ℕ) (n u v acc : ℕ) (A : Inflowing work n u v acc) where
+  module _ (l : v < n) where
+    pub inflow-place : v * n + u < n * n
+    inflow-place = digits-lt l (A .given .job)
+
+    pub inflow-grid : n * n ≤ 4096
+    inflow-grid = mul-le-mul (A .given .few) (A .given .few)
+
+    pub inflow-fits : acc + getD work (v * n + u) 0 < 2 ^ 64
+    unfolding inflowOf sum
+    inflow-fits = omega (arith, A .so-far, sum-part n (suc v) (λ w. getD work (w * n + u) 0) l, A .given .fits)
+
+    pub inflow-turn : Inflowing work n u (v + 1) (acc + getD work (v * n + u) 0)
+    unfolding sum
+    inflow-turn = record {
+      given = A .given;
+      jobs = omega arith;
+      so-far = omega (arith, A .so-far) ∙ ap (λ (z : ℕ). sum z (λ w. getD work (w * n + u) 0)) (suc-eq-add-one v);
+    }
+
+  pub inflow-end : n ≤ v → acc ≡ inflowOf work n u
+  unfolding inflowOf
+  inflow-end l = A .so-far ∙ ap (λ (z : ℕ). sum z (λ w. getD work (w * n + u) 0)) (let e : v ≡ n = (let m = A .jobs in omega arith) in e)

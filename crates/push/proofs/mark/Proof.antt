@@ -1,0 +1,35 @@
+-- `mark`: one digit of one mask is set.
+use mathlib.Core.Path.{refl}
+use Prim.Native.Nat.{_/_}
+use native.Mathlib.Omega.{arith}
+use Rattle.bits.proofs.Digits.{one-shl}
+use Rattle.push.specs.Advance.{withStep}
+use borrow.Author.Needs.{needs}
+use Rattle.push.proofs.mark.Statement.{statement}
+use Rattle.push.proofs.mark.Tie as tie
+use Rattle.push.proofs.mark.Reads as reads
+use Rattle.push.proofs.mark.Lts as lts
+
+mul-steps : tie.Need-mul-steps
+mul-steps c = search needs
+
+element-copy-out-steps : tie.Need-element-copy-out-steps
+element-copy-out-steps c = search needs
+
+shl-steps : tie.Need-shl-steps
+shl-steps c = search needs
+
+mul-steps-2 : tie.Need-mul-steps-2
+mul-steps-2 c = search needs
+
+element-write-steps : tie.Need-element-write-steps
+element-write-steps c = search needs
+
+returns : tie.Need-returns
+unfolding withStep
+returns c = let s = c .before in rw (one-shl (s .args .b / 2) (let l = s .pre .to in omega arith)) refl
+
+pub mark-spec : {M : Type 1} → statement M
+mark-spec =
+    tie.close
+    (tie.spec mul-steps element-copy-out-steps shl-steps mul-steps-2 element-write-steps returns)

@@ -1,0 +1,176 @@
+-- The search over masks: the laws of its inner loop, over the neighbours of one place.
+-- Assumes nothing.
+--
+--   low-lt, inner-lt, inner-room   the next neighbour is a job below 64 and a node below 128, and there is a place for it
+--   inner-more, inner-sought       it is taken, and is not the sink; it is the sink
+--   inner-close                    no neighbour is left
+use mathlib.Core.Path.{_≡_, refl, sym, ap, _∙_, subst}
+use mathlib.Core.Logic.{_⊎_, inl, inr, _≢_}
+use mathlib.Core.List.{List}
+use Prim.Native.Nat.{ℕ, suc, _+_, _-_, _*_, _/_, _%_, _^_, _<_, _≤_}
+use native.Mathlib.Nat.{le-refl}
+use native.Mathlib.Numerals.{suc-eq-add-one}
+use native.Mathlib.Omega.{arith}
+use lib.Dec.{T}
+use lib.Pow.{pow-lt}
+use lib.Bits.{bitAnd, bitXor, xor-lt}
+use lib.Count.{trailingZeros}
+use lib.ListN.{length, getD, set, length-set}
+use lib.Seq.{getD-set-same, getD-set-other}
+use Rattle.bits.specs.Mask.{bit, Has}
+use Rattle.bits.proofs.Digits.{bit-zero, bit-pow-same}
+use Rattle.bits.proofs.Masks.{has-pow-cases, has-xor, xor-has}
+use Rattle.bits.proofs.Lowest.{trailing-has, trailing-least, and-pred}
+use Rattle.network.specs.Rooms.{step}
+use Rattle.search.specs.Masks.{at, masked}
+use Rattle.search.specs.Sought.{Sought}
+use Rattle.search.proofs.FoundLaws.{Found}
+use Rattle.search.proofs.KeepLaws.{Keep, keep-set, keep-jump, keep-next, keep-room, keep-found, keep-add}
+use Rattle.search.proofs.MaskSteps.{step-parts, step-made}
+use Rattle.search.proofs.LeadsLaws.{path-found}
+use Rattle.search.proofs.OuterLaws.{Free, Unseen, Outer, Inner}
+
+-- ---- a neighbour is taken from the mask
+
+module _ (steps : List ℕ) (s t : ℕ) (qs ps fr : List ℕ) (m h side rest : ℕ) (I : Inner steps s t qs ps fr m h side rest) where
+  lside : side < 2
+  lside = let e = I .other in omega arith
+
+  -- none is left
+  pub inner-close : rest ≡ 0 → Outer steps s t qs ps fr m (h + 1)
+  inner-close z = record {
+    sizes = I .sizes;
+    keep = subst (λ (i : ℕ). Keep (step (masked steps)) 128 s t m i 0 (at qs) (at ps) (Free fr)) (suc-eq-add-one h) next;
+    most = let l = I .more in omega arith;
+  }
+    where
+      empty : (j : ℕ) → Has rest j → ⊥
+      empty j r = let e : _≡_ {A = ℕ} 0 1 = sym (bit-zero j) ∙ ap (λ (x : ℕ). bit x j) (sym z) ∙ r in omega arith
+
+      end : Keep (step (masked steps)) 128 s t m h 128 (at qs) (at ps) (Unseen fr rest side)
+      end = keep-jump (step (masked steps)) 128 s t m h (I .y) (at qs) (at ps) (Unseen fr rest side) (I .keep) 128 (I .under) (le-refl 128) (λ x ly lx e u. empty (x / 2) (I .all x lx ly e u))
+
+      next : Keep (step (masked steps)) 128 s t m (suc h) 0 (at qs) (at ps) (Free fr)
+      next = keep-set (step (masked steps)) 128 s t m (suc h) 0 (at qs) (at ps) (Unseen fr rest side) (keep-next (step (masked steps)) 128 s t m h 128 (at qs) (at ps) (Unseen fr rest side) end (le-refl 128)) (Free fr) free (λ x l u. inl u)
+        where
+          free : (x : ℕ) → x < 128 → Unseen fr rest side x → Free fr x
+          free x l (inl u) = u
+          free x l (inr u) = absurd (empty (x / 2) (u .1))
+
+  module _ (some : rest ≢ 0) where
+    pub low : ℕ
+    low = trailingZeros 64 rest
+
+    pub low-has : Has rest (trailingZeros 64 rest)
+    low-has = trailing-has 64 rest (I .fits) some .0
+
+    pub low-lt : trailingZeros 64 rest < 64
+    low-lt = trailing-has 64 rest (I .fits) some .1
+
+    pub inner-lt : 2 * trailingZeros 64 rest + side < 128
+    inner-lt = omega (arith, low-lt, lside)
+
+    half : (2 * trailingZeros 64 rest + side) / 2 ≡ trailingZeros 64 rest
+    half = omega (arith, lside)
+
+    odd : (2 * trailingZeros 64 rest + side) % 2 ≡ side
+    odd = omega (arith, lside)
+
+    stp : T (step (masked steps) (at qs h) (2 * trailingZeros 64 rest + side))
+    stp = step-made steps (at qs h) (2 * trailingZeros 64 rest + side) (omega (arith, I .other)) (subst (λ (z : ℕ). Has (getD steps (at qs h) 0) z) (sym half) (I .ours (trailingZeros 64 rest) low-has .0))
+
+    new : Unseen fr rest side (2 * trailingZeros 64 rest + side)
+    new = inr (odd, subst (λ (z : ℕ). Has rest z) (sym half) low-has)
+
+    K : Keep (step (masked steps)) 128 s t m h (2 * trailingZeros 64 rest + side) (at qs) (at ps) (Unseen fr rest side)
+    K = keep-jump (step (masked steps)) 128 s t m h (I .y) (at qs) (at ps) (Unseen fr rest side) (I .keep) (2 * trailingZeros 64 rest + side) (I .ours (trailingZeros 64 rest) low-has .1) (omega (arith, inner-lt)) before
+      where
+        before : (x : ℕ) → I .y ≤ x → x < 2 * trailingZeros 64 rest + side → T (step (masked steps) (at qs h) x) → Unseen fr rest side x → ⊥
+        before x ly lx e u =
+            let k = step-parts steps (at qs h) x e in
+            let q = k .0 in
+            omega (arith, inner-lt, lside, I .other, trailing-least 64 rest (x / 2) (I .all x (omega (arith, inner-lt)) ly e u))
+
+    pub inner-room : m < 128
+    inner-room = keep-room (step (masked steps)) 128 s t m h (2 * trailingZeros 64 rest + side) (at qs) (at ps) (Unseen fr rest side) K (I .more) inner-lt stp new
+
+    module _ (b : ℕ) (eb : b ≡ 2 * trailingZeros 64 rest + side) where
+      sameQ : (k : ℕ) → k < m → at (set qs m b) k ≡ at qs k
+      sameQ k l = getD-set-other qs m k b 0 (λ q. omega arith)
+
+      sameP : (k : ℕ) → k < m → at (set ps m h) k ≡ at ps k
+      sameP k l = getD-set-other ps m k h 0 (λ q. omega arith)
+
+      atQ : at (set qs m b) m ≡ 2 * trailingZeros 64 rest + side
+      atQ = getD-set-same qs m b 0 (omega (arith, I .sizes .queue, inner-room)) ∙ eb
+
+      atP : at (set ps m h) m ≡ h
+      atP = getD-set-same ps m h 0 (omega (arith, I .sizes .parent, inner-room))
+
+      pub inner-found : b ≡ t → Found (step (masked steps)) 128 s t m (at (set qs m b)) (at (set ps m h))
+      inner-found q = keep-found (step (masked steps)) 128 s t m h (2 * trailingZeros 64 rest + side) (at qs) (at ps) (Unseen fr rest side) K (I .more) inner-lt stp new
+          (at (set qs m b)) (at (set ps m h)) sameQ sameP atQ atP (sym eb ∙ q)
+
+      pub inner-sought : b ≡ t → Sought steps s t (set qs m b) (set ps m h) m
+      inner-sought q = record {
+        queue = length-set qs m b ∙ I .sizes .queue;
+        parent = length-set ps m h ∙ I .sizes .parent;
+        place = inner-room;
+        none = λ z. absurd (omega (arith, I .more));
+        found = λ z. path-found steps s t m (set qs m b) (set ps m h) (inner-found q);
+      }
+
+      pub inner-add : b ≢ t → (p : ℕ) → p ≡ 2 ^ trailingZeros 64 rest → Inner steps s t (set qs m b) (set ps m h) fr (m + 1) h side (bitXor rest p)
+      inner-add ne p ep = record {
+        sizes = record { queue = length-set qs m b ∙ I .sizes .queue; parent = length-set ps m h ∙ I .sizes .parent; free = I .sizes .free; small = I .sizes .small };
+        y = suc (2 * trailingZeros 64 rest + side);
+        keep = subst (λ (i : ℕ). Keep (step (masked steps)) 128 s t i h (suc (2 * trailingZeros 64 rest + side)) (at (set qs m b)) (at (set ps m h)) (Unseen fr rest′ side)) (suc-eq-add-one m) kept;
+        under = inner-lt;
+        more = let l = I .more in omega arith;
+        fits = xor-lt 64 rest p (I .fits) (subst (λ (z : ℕ). z < 2 ^ 64) (sym ep) (pow-lt low-lt));
+        other = I .other ∙ ap (λ (z : ℕ). 1 - z % 2) (sym (sameQ h (I .more)));
+        ours = λ j r. let k = part j r in (subst (λ (z : ℕ). Has (getD steps z 0) j) (sym (sameQ h (I .more))) (I .ours j (k .0) .0), omega (arith, trailing-least 64 rest j (k .0), k .1));
+        all = λ x lx ly e u. whole x lx ly (subst (λ (z : ℕ). T (step (masked steps) z x)) (sameQ h (I .more)) e) u;
+        apart = λ j r g. I .apart j (part j r .0) g;
+      }
+        where
+          rest′ : ℕ
+          rest′ = bitXor rest p
+
+          sub : (j : ℕ) → Has p j → Has rest j
+          sub j r = subst (λ (z : ℕ). Has rest z) (sym (has-pow-cases (trailingZeros 64 rest) j (subst (λ (z : ℕ). Has z j) ep r))) low-has
+
+          pow : Has p (trailingZeros 64 rest)
+          pow = subst (λ (z : ℕ). Has z (trailingZeros 64 rest)) (sym ep) (bit-pow-same (trailingZeros 64 rest))
+
+          part : (j : ℕ) → Has rest′ j → Has rest j × (j ≢ trailingZeros 64 rest)
+          part j r = let k = has-xor rest p j (sub j) r in (k .0, λ e. k .1 (subst (λ (z : ℕ). Has p z) (sym e) pow))
+
+          rem : (j : ℕ) → Has rest j → j ≢ trailingZeros 64 rest → Has rest′ j
+          rem j r n = xor-has rest p j r (λ q. n (has-pow-cases (trailingZeros 64 rest) j (subst (λ (z : ℕ). Has z j) ep q)))
+
+          to : (x : ℕ) → x < 128 → x ≢ 2 * trailingZeros 64 rest + side → Unseen fr rest side x → Unseen fr rest′ side x
+          to x lx n (inl u) = inl u
+          to x lx n (inr u) = inr (u .0, rem (x / 2) (u .1) (λ e. n (let q = u .0 in omega (arith, lside))))
+
+          from : (x : ℕ) → Unseen fr rest′ side x → Unseen fr rest side x
+          from x (inl u) = inl u
+          from x (inr u) = inr (u .0, part (x / 2) (u .1) .0)
+
+          gone : Unseen fr rest′ side (2 * trailingZeros 64 rest + side) → ⊥
+          gone (inr u) = part ((2 * trailingZeros 64 rest + side) / 2) (u .1) .1 half
+          gone (inl u) = I .apart (trailingZeros 64 rest) low-has (subst (λ (z : ℕ). Has (getD fr z 0) (trailingZeros 64 rest)) odd (subst (λ (z : ℕ). Has (getD fr ((2 * trailingZeros 64 rest + side) % 2) 0) z) half u))
+
+          kept : Keep (step (masked steps)) 128 s t (suc m) h (suc (2 * trailingZeros 64 rest + side)) (at (set qs m b)) (at (set ps m h)) (Unseen fr rest′ side)
+          kept = keep-add (step (masked steps)) 128 s t m h (2 * trailingZeros 64 rest + side) (at qs) (at ps) (Unseen fr rest side) K (I .more) inner-lt stp new
+              (at (set qs m b)) (at (set ps m h)) sameQ sameP atQ atP (λ q. ne (eb ∙ q)) (Unseen fr rest′ side) to (λ x l u. from x u) gone
+
+          whole : (x : ℕ) → x < 128 → suc (2 * trailingZeros 64 rest + side) ≤ x → T (step (masked steps) (at qs h) x) → Unseen fr rest′ side x → Has rest′ (x / 2)
+          whole x lx ly e u =
+              let k = step-parts steps (at qs h) x e in
+              let q = k .0 in
+              rem (x / 2) (I .all x lx (omega (arith, I .ours (trailingZeros 64 rest) low-has .1)) e (from x u)) (λ z. omega (arith, lside, I .other))
+
+      -- as the code takes it: `rest & (rest - 1)`
+      pub inner-more : b ≢ t → Inner steps s t (set qs m b) (set ps m h) fr (m + 1) h side (bitAnd rest (rest - 1))
+      inner-more q = subst (λ (z : ℕ). Inner steps s t (set qs m b) (set ps m h) fr (m + 1) h side z) (sym (and-pred 64 rest (I .fits) some)) (inner-add q (2 ^ trailingZeros 64 rest) refl)
