@@ -2,17 +2,17 @@
 -- Assumes nothing.
 --
 --   Checked rows costs τ work m      the checks of the refusals before m were passed
---   checked-2 .. checked-9           one check more
+--   checked-1 .. checked-9           one check more
+--   fault-4 .. fault-8               the fault that a check has found
 --   checked-first                    so no fault of a smaller number is there
 --   refuse                           a fault found then is refused by its number
 --   checked-faultless                after all checks there is no fault
-use mathlib.Core.Path.{_≡_, refl, sym, subst}
-use mathlib.Core.Logic.{_≢_, inl, inr, ⊎-elim}
+use mathlib.Core.Path.{_≡_, sym, ap, subst}
+use mathlib.Core.Logic.{_≢_, ⊎-elim}
 use mathlib.Core.Bool.{Bool, true, false}
 use mathlib.Core.List.{List}
-use Prim.Native.Nat.{ℕ, suc, _*_, _^_, _<_, _≤_}
+use Prim.Native.Nat.{ℕ, suc, _+_, _*_, _^_, _<_, _≤_}
 use native.Mathlib.Omega.{arith}
-use native.Mathlib.Decide.{decLt}
 use lib.Dec.{T}
 use lib.ListN.{length}
 use Rattle.sums.specs.Sum.{sum}
@@ -163,8 +163,14 @@ module _ (rows costs : List ℕ) (τ work : ℕ) where
     light = λ l. absurd (omega arith);
   }
 
-  pub checked-9 : Checked rows costs τ work 8 → suc (sum (length rows) (costOf costs)) ≤ 2 ^ 63 → Checked rows costs τ work 9
-  checked-9 C a = record {
+  -- the sum that was added up is that of all jobs
+  pub checked-sum : Checked rows costs τ work 8 → (s : ℕ) → s ≡ sum (length costs) (costOf costs) → s + 1 ≡ suc (sum (length rows) (costOf costs))
+  checked-sum C s e =
+      let q = ap (λ (z : ℕ). sum z (costOf costs)) (C .even (omega arith)) in
+      omega (arith, e, q)
+
+  pub checked-9 : Checked rows costs τ work 8 → (s : ℕ) → s ≡ sum (length costs) (costOf costs) → s + 1 ≤ 2 ^ 63 → Checked rows costs τ work 9
+  checked-9 C s e a = record {
     some = λ l. C .some (omega arith);
     few = λ l. C .few (omega arith);
     even = λ l. C .even (omega arith);
@@ -173,7 +179,7 @@ module _ (rows costs : List ℕ) (τ work : ℕ) where
     apart = λ l. C .apart (omega arith);
     there = λ l. C .there (omega arith);
     fit = λ l. C .fit (omega arith);
-    light = λ l. a;
+    light = λ l. subst (λ (z : ℕ). z ≤ 2 ^ 63) (checked-sum C s e) a;
   }
 
   -- the costs can be added up
@@ -196,6 +202,9 @@ module _ (rows costs : List ℕ) (τ work : ℕ) where
   pub fault-7 : (b : Bool) → Checked rows costs τ work 7 → Strayed costs b → b ≡ true → Fault rows costs τ work 7
   fault-7 true C (Strayed.some j l k) e = let m : j < length rows = omega (arith, C .even (omega arith)) in ⊎-elim (free j m) (dear j m) k
   fault-7 false C k e = absurd (subst T (sym e) tt)
+
+  pub fault-8 : Checked rows costs τ work 8 → (s : ℕ) → s ≡ sum (length costs) (costOf costs) → 2 ^ 63 < s + 1 → Fault rows costs τ work 8
+  fault-8 C s e l = heavy (subst (λ (z : ℕ). 2 ^ 63 < z) (checked-sum C s e) l)
 
 -- a fault found after the checks before it is the refusal that is due, and nothing was written
 pub refuse : (rows costs : List ℕ) (τ allowance : ℕ) (before : List ℕ) (k : ℕ) → Checked rows costs τ (length before) k → Fault rows costs τ (length before) k

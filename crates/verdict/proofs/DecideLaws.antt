@@ -1,10 +1,11 @@
 -- From the flow layer's statement to the verdict: what `decide` returns in each of its four cases is what the document says.
 -- Assumes nothing.
 --
+--   through-none, through-some   what the graph layer says of rings through T
 --   x-exact            the mask of X tests X
 --   decide-accepted    an input without faults, with its X, is what the rounds are made on
 --   decide-waits, decide-unfinished, decide-itself, decide-others   the four cases
---   price-inflow       the flow into T is the price of the set
+--   price-inflow, inflow-summable   the flow into T is the price of the set, and can be added up
 use mathlib.Core.Path.{_≡_, refl, sym, ap, _∙_, subst}
 use mathlib.Core.Logic.{_≢_}
 use mathlib.Core.Bool.{Bool, true, false}
@@ -17,11 +18,12 @@ use lib.ListN.{length, getD}
 use Rattle.bits.specs.Mask.{Has, has, MaskOf}
 use Rattle.bits.proofs.Masks.{has-test, test-has, has-and, and-has, has-xor, xor-has}
 use Rattle.sums.specs.Sum.{sum, gate}
-use Rattle.sums.proofs.SumLaws.{sum-cong}
+use Rattle.sums.proofs.SumLaws.{sum-cong, sum-mono, gate-le}
 use Rattle.walks.specs.Walk.{Reaches}
 use Rattle.walks.proofs.ReachLaws.{reaches-here, reaches-in}
 use Rattle.graph.specs.Waits.{waits}
-use Rattle.graph.specs.Rings.{Ring, InX}
+use Rattle.graph.specs.Rings.{Ring, InX, RingThrough}
+use Rattle.graph.specs.Rings.RingThrough.{some, none}
 use Rattle.network.specs.Rooms.{Room, step}
 use Rattle.network.specs.Rounds.{Stuck}
 use Rattle.network.specs.Arcs.{inn, out, within}
@@ -33,7 +35,7 @@ use Rattle.network.proofs.RingPaths.{no-ring-rounds}
 use Rattle.flow.specs.Accepted.{costOf, Accepted}
 use Rattle.flow.specs.Flowed.{Side, Ends, Flowed}
 use Rattle.flow.specs.Flowed.Ends.{settled, unfinished as ends-unfinished}
-use Rattle.flow.specs.Inflow.{inflowOf}
+use Rattle.flow.specs.Inflow.{inflowOf, Summable}
 use Rattle.verdict.specs.declared.Outcome.the-variants.{Wait, AbortT, AbortOthers, NotYet}
 use Rattle.verdict.specs.declared.Decision.{Decision}
 use Rattle.verdict.specs.declared.Answer.the-variants.{Decided}
@@ -42,7 +44,7 @@ use Rattle.verdict.specs.Answers.{After, Victims, Verdict}
 use Rattle.verdict.specs.Answers.Verdict.{stays, itself, others, unfinished}
 use Rattle.verdict.specs.Called.{Flows, Called}
 use Rattle.verdict.specs.Called.Called.{answers}
-use Rattle.verdict.proofs.RefusalLaws.{faultless-job, faultless-jobs, faultless-apart, faultless-priced, faultless-positive, faultless-bounded, faultless-size}
+use Rattle.verdict.proofs.RefusalLaws.{faultless-few, faultless-job, faultless-jobs, faultless-apart, faultless-priced, faultless-positive, faultless-bounded, faultless-size}
 
 -- ---- what the last round leaves, by whether a path is left
 
@@ -54,6 +56,18 @@ ends-settled : (r : Room) (n τ k a : ℕ) (b : Bool) (ins outs : ℕ) → Ends 
     → Stuck (2 * n) (out τ) (inn τ) r × MaskOf (Side r n τ inn) ins × MaskOf (Side r n τ out) outs
 ends-settled r n τ k a b ins outs (settled s i o) e = (s, i, o)
 ends-settled r n τ k a b ins outs (ends-unfinished q p) e = absurd (subst T e tt)
+
+-- ---- whether a ring passes through T
+
+pub through-none : (w : ℕ → ℕ → Bool) (n τ : ℕ) (b : Bool) → RingThrough w n τ b → b ≡ false → (p : List ℕ) → Ring w n τ p → ⊥
+through-none w n τ b (some p r) e = absurd (subst T e tt)
+through-none w n τ b (none f) e = f
+
+pub through-some : (w : ℕ → ℕ → Bool) (n τ : ℕ) (b : Bool) → RingThrough w n τ b → b ≡ true → (p : List ℕ) × Ring w n τ p
+through-some w n τ b (some p r) e = (p, r)
+through-some w n τ b (none f) e = absurd (subst T (sym e) tt)
+
+-- ---- the four cases
 
 module _ (rows costs : List ℕ) (τ x : ℕ) (X : MaskOf (InX (waits rows) (length rows) τ) x) where
   pub x-exact : Exactly (length rows) (InX (waits rows) (length rows) τ) (has x)
@@ -153,6 +167,21 @@ module _ (rows costs : List ℕ) (τ x : ℕ) (X : MaskOf (InX (waits rows) (len
             sum-cong (length rows) (λ v. getD after (v * length rows + τ) 0) (λ v. gate (within (waits rows) (has x) v τ) (M .room (inn τ) (out v))) (λ v lv. M .flow v τ lv lτ)
             ∙ sym (best-price (waits rows) (length rows) τ (has x) x-exact lτ apart (costOf costs) k (M .room) (M .made) stuck (has set) best)
 
+        -- which can be added up: no set costs more than all jobs
+        pub inflow-summable : Summable after (length rows) τ
+        unfolding price
+        inflow-summable = record {
+          few = faultless-few rows costs τ (length before) F;
+          size = omega (arith, M .size, faultless-size rows costs τ (length before) F);
+          job = lτ;
+          fits = omega (
+            arith,
+            price-inflow,
+            sum-mono (length rows) (λ u. gate (has set u) (costOf costs u)) (costOf costs) (λ u l. gate-le (has set u) (costOf costs u)),
+            faultless-bounded rows costs τ (length before) F,
+          );
+        }
+
         victims : Victims (length rows) (has set) set
         victims = record {
           small = xor-lt 64 side (bitAnd side ins) side-small (and-lt 64 side ins side-small (I .small));
@@ -163,13 +192,15 @@ module _ (rows costs : List ℕ) (τ x : ℕ) (X : MaskOf (InX (waits rows) (len
             side-small : bitAnd x outs < 2 ^ 64
             side-small = and-lt 64 x outs (X .small) (O .small)
 
-        pub decide-itself : costOf costs τ < inflowOf after (length rows) τ → (d : Decision)
-            → d ≡ record { outcome = AbortT; price = costOf costs τ; rounds = k; victims = 2 ^ τ } → Called rows costs τ allowance before (Decided d) after
-        decide-itself c d e = rw e (answers _ after F
-            (itself p g k (M .room) after-made stuck (M .limit) (has set) best (subst (λ (z : ℕ). costOf costs τ < z) price-inflow c)) flows-made)
+        pub decide-itself : (q v : ℕ) → q ≡ inflowOf after (length rows) τ → getD costs τ 0 < q → v ≡ 2 ^ τ
+            → Called rows costs τ allowance before (Decided (record { outcome = AbortT; price = getD costs τ 0; rounds = k; victims = v })) after
+        unfolding costOf
+        decide-itself q v e c f = rw f (answers _ after F
+            (itself p g k (M .room) after-made stuck (M .limit) (has set) best (subst (λ (z : ℕ). costOf costs τ < z) (e ∙ price-inflow) c)) flows-made)
 
-        pub decide-others : inflowOf after (length rows) τ ≤ costOf costs τ → (d : Decision)
-            → d ≡ record { outcome = AbortOthers; price = inflowOf after (length rows) τ; rounds = k; victims = set } → Called rows costs τ allowance before (Decided d) after
-        decide-others c d e = rw e (answers _ after F
-            (subst (λ (z : ℕ). Verdict (waits rows) (length rows) τ (costOf costs) allowance 2 z k set) (sym price-inflow)
-            (others p g k (M .room) after-made stuck (M .limit) (has set) best (subst (λ (z : ℕ). z ≤ costOf costs τ) price-inflow c) set victims)) flows-made)
+        pub decide-others : (q : ℕ) → q ≡ inflowOf after (length rows) τ → q ≤ getD costs τ 0
+            → Called rows costs τ allowance before (Decided (record { outcome = AbortOthers; price = q; rounds = k; victims = set })) after
+        unfolding costOf
+        decide-others q e c = answers _ after F
+            (subst (λ (z : ℕ). Verdict (waits rows) (length rows) τ (costOf costs) allowance 2 z k set) (sym (e ∙ price-inflow))
+            (others p g k (M .room) after-made stuck (M .limit) (has set) best (subst (λ (z : ℕ). z ≤ costOf costs τ) (e ∙ price-inflow) c) set victims)) flows-made

@@ -8,6 +8,9 @@ ghost use lib.ListN.{length};
 ghost use Rattle.sums.specs.Sum.{sum};
 ghost use Rattle.flow.specs.Accepted.{costOf};
 ghost use Rattle.verdict.specs.Checks.{Looped, Strayed, Payable};
+ghost use Rattle.verdict.specs.Refusals.{Faultless};
+ghost use Rattle.verdict.specs.Called.{Called};
+ghost use Rattle.verdict.specs.declared.Answer.the-variants.{Decided as Answer·Decided};
 
 // What to do.
 pub enum Outcome {
@@ -77,4 +80,82 @@ fn sum_of(costs: &[u64]) -> u64
         u += 1;
     }
     total
+}
+
+// The verdict on an input without faults.
+fn decide(rows: &[u64], costs: &[u64], t: usize, allowance: u32, work: &mut [u64]) -> Decision
+    requires { ⌜ Faultless (now rows) (now costs) t (length (now work)) ⌝ }
+    ensures { λ r. ⌜ Called (now (rows .entry)) (now (costs .entry)) t allowance (now (work .entry)) (Answer·Decided r) (now (work .exit)) ⌝ }
+{
+    let x = graph::on_rings(rows, t);
+    let made = flow::make_rounds(rows, costs, t, x, allowance, work);
+    if !graph::ring_through(rows, t, x) {
+        return Decision {
+            outcome: Outcome::Wait,
+            price: 0,
+            rounds: 0,
+            victims: 0,
+        };
+    }
+    if made.left {
+        return Decision {
+            outcome: Outcome::NotYet,
+            price: 0,
+            rounds: made.rounds,
+            victims: 0,
+        };
+    }
+    let price = flow::inflow(work, rows.len(), t);
+    if costs[t] < price {
+        return Decision {
+            outcome: Outcome::AbortT,
+            price: costs[t],
+            rounds: made.rounds,
+            victims: 1u64 << t,
+        };
+    }
+    let side = x & made.outs;
+    Decision {
+        outcome: Outcome::AbortOthers,
+        price,
+        rounds: made.rounds,
+        victims: side ^ (side & made.ins),
+    }
+}
+
+const HIGHEST_SUM: u64 = 9223372036854775808;
+
+// The verdict call.
+pub fn verdict(rows: &[u64], costs: &[u64], t: usize, allowance: u32, work: &mut [u64]) -> Answer
+    ensures { λ r. ⌜ Called (now (rows .entry)) (now (costs .entry)) t allowance (now (work .entry)) r (now (work .exit)) ⌝ }
+{
+    let n = rows.len();
+    if n == 0 {
+        return Answer::Refused(1);
+    }
+    if 64 < n {
+        return Answer::Refused(1);
+    }
+    if costs.len() != n {
+        return Answer::Refused(2);
+    }
+    if work.len() < n * n {
+        return Answer::Refused(3);
+    }
+    if !graph::rows_known(rows) {
+        return Answer::Refused(4);
+    }
+    if waits_for_itself(rows) {
+        return Answer::Refused(5);
+    }
+    if n <= t {
+        return Answer::Refused(6);
+    }
+    if costs_stray(costs) {
+        return Answer::Refused(7);
+    }
+    if HIGHEST_SUM < sum_of(costs) + 1 {
+        return Answer::Refused(8);
+    }
+    Answer::Decided(decide(rows, costs, t, allowance, work))
 }
