@@ -102,7 +102,7 @@ decisionOf : Decision → Answer → Decision
 decisionOf d (Refused k) = d
 decisionOf d (Decided e) = e
 
-decided-unique : (d e : Decision) → Decided d ≡ Decided e → d ≡ e
+pub decided-unique : (d e : Decision) → Decided d ≡ Decided e → d ≡ e
 unfolding decisionOf
 decided-unique d e q = ap (decisionOf d) q
 
