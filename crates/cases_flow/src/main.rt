@@ -1,31 +1,55 @@
-// Runs the rounds on calls from standard input and writes, a line a call, the count of rounds, whether a path is left, and the flows.
-// A line is hexadecimal numbers: how many rows, costs and work places, T, the allowance, the rows, the costs.
+// Runs the rounds on calls from standard input and writes, a line a call, how many rounds were made, whether a path is left, and the flows.
+// A line is hexadecimal numbers with one byte between two: how many rows, costs and work places there are, T, the allowance, the rows, the costs.
+ghost use mathlib.Core.Path.{_≡_};
+ghost use mathlib.Core.Bool.{true};
+ghost use Prim.Native.Nat.{_<_, _≤_};
+ghost use lib.ListN.{length};
+ghost use Rattle.cases_flow.specs.Call.{Behind, Fit};
 use flow::make_rounds;
+use graph::on_rings;
+use graph::rows_known;
 
 struct Number {
     value: u64,
     next: usize,
 }
 
-fn digit_of(byte: u8) -> u64 {
-    if byte >= 48 && byte <= 57 {
+// The value of a hexadecimal digit, else 16.
+fn digit_of(byte: u8) -> u64
+    ensures { λ r. ⌜ r ≤ 16 ⌝ }
+{
+    if byte < 48 {
+        return 16;
+    }
+    if byte < 58 {
         return (byte - 48) as u64;
     }
-    if byte >= 65 && byte <= 70 {
+    if byte < 65 {
+        return 16;
+    }
+    if byte < 71 {
         return (byte - 55) as u64;
     }
     16
 }
 
-fn read_number(text: &[u8], from: usize) -> Number {
+// The number at a place of the text, and the place behind the byte that ends it.
+fn read_number(text: &[u8], from: usize) -> Number
+    requires { ⌜ from ≤ length (now text) ⌝ }
+    ensures { λ r. ⌜ Behind (now (text .entry)) from (r .next) ⌝ }
+{
     let mut at = from;
-    while at < text.len() && digit_of(text[at]) == 16 {
-        at += 1;
-    }
     let mut value = 0u64;
-    while at < text.len() && digit_of(text[at]) < 16 {
-        value = (value % 1152921504606846976) * 16 + digit_of(text[at]);
+    while at < text.len() {
+        let digit = digit_of(text[at]);
         at += 1;
+        if digit == 16 {
+            return Number {
+                value: value,
+                next: at,
+            };
+        }
+        value = (value % 1152921504606846976) * 16 + digit;
     }
     Number {
         value: value,
@@ -33,95 +57,106 @@ fn read_number(text: &[u8], from: usize) -> Number {
     }
 }
 
-fn reach(rows: &[u64], from: usize) -> u64 {
-    let mut seen = 1u64 << from;
-    let mut done = 0u64;
-    while seen != done {
-        let u = u64::trailing_zeros(seen ^ done);
-        done = done | (1u64 << u);
-        seen = seen | rows[u as usize];
+// The numbers from a place on, into the first n places of the list, and the place behind them.
+fn read_list(text: &[u8], from: usize, n: usize, list: &mut [u64; 64]) -> usize
+    requires { ⌜ (from ≤ length (now text)) × (n ≤ 64) × (length (now list) ≡ 64) ⌝ }
+    ensures { λ r. ⌜ (from ≤ r) × (r ≤ length (now (text .entry))) × (length (now (list .exit)) ≡ 64) ⌝ }
+{
+    let mut at = from;
+    let mut i = 0usize;
+    while i < n {
+        let number = read_number(text, at);
+        list[i] = number.value;
+        at = number.next;
+        i += 1;
     }
-    seen
+    at
 }
 
-fn on_rings(rows: &[u64], t: usize) -> u64 {
-    let there = reach(rows, t);
-    let mut x = 0u64;
+// No job waits for itself, and each cost is above 0 and at most 2^42.
+fn fit(rows: &[u64], costs: &[u64]) -> bool
+    requires { ⌜ (length (now rows) ≤ 64) × (length (now costs) ≡ length (now rows)) ⌝ }
+    ensures { λ r. ⌜ (r ≡ true → Fit (now (rows .entry)) (now (costs .entry))) ⌝ }
+{
     let mut u = 0usize;
     while u < rows.len() {
-        if (there >> u) % 2 == 1 {
-            let back = reach(rows, u);
-            if (back >> t) % 2 == 1 {
-                x = x | (1u64 << u);
-            }
+        if (rows[u] >> u) % 2 == 1 {
+            return false;
+        }
+        if costs[u] == 0 {
+            return false;
+        }
+        if costs[u] > 4398046511104 {
+            return false;
         }
         u += 1;
     }
-    x
+    true
 }
 
+// The capital of a small letter, else the byte itself.
+fn capital(byte: u8) -> u8 {
+    if byte >= 97 {
+        return byte - 32;
+    }
+    byte
+}
+
+// Writes a number in capital hexadecimal digits.
 fn print_hex(value: u64) {
-    if value >= 16 {
-        print_hex(value / 16);
-    }
-    let d = (value % 16) as u8;
-    if d < 10 {
-        io::write_all(1, &[48 + d]);
-    } else {
-        io::write_all(1, &[55 + d]);
-    }
-}
-
-fn print_flows(work: &[u64], n: usize) {
+    let mut digits = [0u8; 16];
+    let n = io::hex(value, 1, &mut digits);
     let mut i = 0usize;
-    while i < n * n {
-        let flow = work[i];
-        if flow != 0 {
-            io::write_all(1, b" ");
-            io::print_decimal(1, (i / n) as u64);
-            io::write_all(1, b">");
-            io::print_decimal(1, (i % n) as u64);
-            io::write_all(1, b":");
-            print_hex(flow);
+    while i < 16 {
+        if i < n {
+            io::write_all(1, &[capital(digits[i])]);
         }
         i += 1;
     }
 }
 
-fn answer_call(text: &[u8], from: usize) -> usize {
-    let r = read_number(text, from);
-    let c = read_number(text, r.next);
-    let w = read_number(text, c.next);
-    let t = read_number(text, w.next);
-    let a = read_number(text, t.next);
-    let n = r.value as usize;
-    let mut at = a.next;
-    let mut rows = [0u64; 64];
-    let mut costs = [0u64; 64];
-    let mut u = 0usize;
-    while u < n {
-        let m = read_number(text, at);
-        rows[u] = m.value;
-        at = m.next;
-        u += 1;
+// Writes one flow, on the wait of place i.
+fn print_flow(i: usize, n: usize, flow: u64)
+    requires { ⌜ 0 < n ⌝ }
+{
+    io::write_all(1, b" ");
+    io::print_decimal(1, (i / n) as u64);
+    io::write_all(1, b">");
+    io::print_decimal(1, (i % n) as u64);
+    io::write_all(1, b":");
+    print_hex(flow);
+}
+
+// Writes the flows above 0 of n jobs.
+fn print_flows(work: &[u64; 4096], n: usize)
+    requires { ⌜ (0 < n) × (n ≤ 64) × (length (now work) ≡ 4096) ⌝ }
+{
+    let mut i = 0usize;
+    while i < n * n {
+        let flow = work[i];
+        if flow != 0 {
+            print_flow(i, n, flow);
+        }
+        i += 1;
     }
-    u = 0;
-    while u < n {
-        let m = read_number(text, at);
-        costs[u] = m.value;
-        at = m.next;
-        u += 1;
+}
+
+// Makes the rounds of one call and writes what they came to; nothing where the call is not accepted.
+fn answer(rows: &[u64], costs: &[u64], t: usize, allowance: u32)
+    requires { ⌜ (length (now rows) ≤ 64) × (length (now costs) ≡ length (now rows)) ⌝ }
+{
+    if t >= rows.len() {
+        return;
+    }
+    if !rows_known(rows) {
+        return;
+    }
+    if !fit(rows, costs) {
+        return;
     }
     let mut work = [7u64; 4096];
-    let x = on_rings(&rows[..n], t.value as usize);
-    let made = make_rounds(
-        &rows[..n],
-        &costs[..n],
-        t.value as usize,
-        x,
-        a.value as u32,
-        &mut work,
-    );
+    let x = on_rings(rows, t);
+    let made = make_rounds(rows, costs, t, x, allowance, &mut work);
     io::write_all(1, b"rounds ");
     print_hex(made.rounds as u64);
     if made.left {
@@ -129,9 +164,32 @@ fn answer_call(text: &[u8], from: usize) -> usize {
     } else {
         io::write_all(1, b" left NO");
     }
-    print_flows(&work, n);
+    print_flows(&work, rows.len());
     io::write_all(1, b"\n");
-    at + 1
+}
+
+// Answers the call at a place of the text, and gives the place behind it.
+fn answer_call(text: &[u8], from: usize) -> usize
+    requires { ⌜ from < length (now text) ⌝ }
+    ensures { λ r. ⌜ Behind (now (text .entry)) from r ⌝ }
+{
+    let r = read_number(text, from);
+    let c = read_number(text, r.next);
+    let w = read_number(text, c.next);
+    let t = read_number(text, w.next);
+    let a = read_number(text, t.next);
+    let n = (r.value % 65) as usize;
+    let mut rows = [0u64; 64];
+    let mut costs = [0u64; 64];
+    let at = read_list(text, a.next, n, &mut rows);
+    let end = read_list(text, at, n, &mut costs);
+    answer(
+        &rows[..n],
+        &costs[..n],
+        t.value as usize,
+        (a.value % 4294967296) as u32,
+    );
+    end
 }
 
 fn main() {
