@@ -4,11 +4,12 @@
 --   line-unique                 there is one line for a text
 --   reply-unique                two results of the text function are equal
 --   reply-refused, reply-answered   the two ways in which a line is written
+--   reply-within                the line is in the list
 use mathlib.Core.Path.{_≡_, refl, sym, ap, _∙_, subst}
 use mathlib.Core.List.{List, _++_}
-use Prim.Native.Nat.{ℕ, _≤_}
+use Prim.Native.Nat.{ℕ, _≤_, zero-le}
 use native.Mathlib.Omega.{arith}
-use lib.ListN.{length, getD, drop}
+use lib.ListN.{length, getD, drop, length-append}
 use lib.Seq.{ext-getD}
 use Rattle.graph.specs.Waits.{waits}
 use Rattle.flow.specs.Accepted.{costOf}
@@ -80,3 +81,8 @@ pub reply-answered : (text before after rows costs : List ℕ) (a : Answer) → 
 unfolding answerLine spell
 reply-answered text before after rows costs a ok G y l e =
     rw e (written l (answerLine a) (answers ok rows costs G (a .outcome) (a .price) (a .rounds) (a .victims) y))
+
+-- the line is in the list
+pub reply-within : (text before : List ℕ) (r : ℕ) (after : List ℕ) → Replied text before r after → r ≤ length after
+reply-within text before r after (short l) = zero-le
+reply-within text before r after (written l line L) = omega (arith, length-append line (drop (length line) before))
