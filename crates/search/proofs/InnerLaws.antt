@@ -5,7 +5,7 @@
 --   inner-more, inner-sought       it is taken, and is not the sink; it is the sink
 --   inner-close                    no neighbour is left
 use mathlib.Core.Path.{_≡_, refl, sym, ap, _∙_, subst}
-use mathlib.Core.Logic.{_⊎_, inl, inr, _≢_}
+use mathlib.Core.Logic.{inl, inr, _≢_}
 use mathlib.Core.List.{List}
 use Prim.Native.Nat.{ℕ, suc, _+_, _-_, _*_, _/_, _%_, _^_, _<_, _≤_, zero-le, suc-le-suc}
 use native.Mathlib.Nat.{le-refl}
@@ -15,7 +15,7 @@ use lib.Dec.{T}
 use lib.Pow.{pow-lt}
 use lib.Bits.{bitAnd, bitXor, xor-lt}
 use lib.Count.{trailingZeros}
-use lib.ListN.{length, getD, set, length-set}
+use lib.ListN.{getD, set, length-set}
 use lib.Seq.{getD-set-same, getD-set-other}
 use Rattle.bits.specs.Mask.{bit, Has}
 use Rattle.bits.proofs.Digits.{bit-zero, bit-pow-same}
