@@ -6,19 +6,18 @@
 --   not-true, passed                what the tests say
 --   known-rows                      rows that name only jobs of the list
 --   call-accepted                   so the rounds can be made
-use mathlib.Core.Path.{_≡_, refl, sym, ap, _∙_, subst}
+use mathlib.Core.Path.{_≡_, refl, sym, subst}
 use mathlib.Core.Logic.{_≢_}
 use mathlib.Core.Bool.{Bool, true, false, not}
 use mathlib.Core.List.{List}
-use Prim.Native.Nat.{ℕ, zero, suc, _+_, _*_, _/_, _%_, _^_, _<_, _≤_, zero-le}
-use native.Mathlib.Nat.{mul-le-mul, le-refl}
+use Prim.Native.Nat.{ℕ, _+_, _*_, _/_, _%_, _^_, _<_, _≤_, zero-le}
+use native.Mathlib.Nat.{mul-le-mul}
 use native.Mathlib.Decide.{ℕ-discrete}
 use native.Mathlib.Omega.{arith}
 use lib.Dec.{T}
 use lib.ListN.{length, getD}
-use Rattle.bits.specs.Mask.{bit, Has, has, MaskOf}
+use Rattle.bits.specs.Mask.{bit, has, MaskOf}
 use Rattle.bits.proofs.Masks.{test-has}
-use Rattle.sums.specs.Sum.{sum}
 use Rattle.sums.proofs.SumLaws.{sum-mono, sum-const}
 use Rattle.walks.proofs.ReachLaws.{reaches-here, reaches-in}
 use Rattle.graph.specs.Waits.{waits, Jobs, Known}
