@@ -1,8 +1,8 @@
 -- Two results that meet the statement of a public function are equal.
 -- Assumes nothing.
 --
---   frame-unique       of `frame`, `frame_at` and `frame_fault`, whose statements are one
---   further-unique     of `further`, `further_at` and `further_fault`
+--   frame-unique       of `frame` and `frame_at`, whose statements are one
+--   further-unique     of `further` and `further_at`
 --   place-unique       of `place`: two readers of one text at one place
 use mathlib.Core.Path.{_≡_, sym, _∙_}
 use mathlib.Core.List.{List}

@@ -13,7 +13,7 @@ pub struct Reader<'a> {
 }
 
 // 10 or 11, where the line at a place is not the frame of this kind and this many digits; else 0.
-pub fn frame_fault(text: &[u8], at: usize, kind: u8, due: usize) -> u8
+fn frame_fault(text: &[u8], at: usize, kind: u8, due: usize) -> u8
     ensures { λ r. ⌜ r ≡ frameFault (now (text .entry)) at kind due ⌝ }
 {
     if text.len() <= at {
@@ -33,7 +33,7 @@ pub fn frame_fault(text: &[u8], at: usize, kind: u8, due: usize) -> u8
 }
 
 // 10 or 11, where there is a line at a place; else 0.
-pub fn further_fault(text: &[u8], at: usize) -> u8
+fn further_fault(text: &[u8], at: usize) -> u8
     ensures { λ r. ⌜ r ≡ furtherFault (now (text .entry)) at ⌝ }
 {
     if text.len() <= at {

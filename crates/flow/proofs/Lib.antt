@@ -6,3 +6,4 @@ pub mod CostLaws
 pub mod StartLaws
 pub mod BeginLaws
 pub mod RunLaws
+pub mod FlowedLaws

@@ -50,7 +50,10 @@ pub record Running (rows costs : List ℕ) (τ x allowance wide : ℕ) (before F
   pub limit : k ≤ allowance
   pub size : length F ≡ length before
   pub rest : (i : ℕ) → length costs * length costs ≤ i → at F i ≡ at before i
-  pub sought : Sought S (2 * τ + 1) (2 * τ) qs ps e
+  -- the search from whatever the two lists held
+  pub qs₀ : List ℕ
+  pub ps₀ : List ℕ
+  pub sought : Sought S (2 * τ + 1) (2 * τ) qs₀ ps₀ qs ps e
 
 pub accepted-costed : (rows costs : List ℕ) (τ x : ℕ) (F : List ℕ) → Accepted rows costs τ x F → Costed costs x
 accepted-costed rows costs τ x F A = record { members = accepted-members rows costs τ x F A; bounded = omega (arith, total-small rows costs τ x F A) }
@@ -90,8 +93,8 @@ accepted-same rows costs τ x F F′ A e = record {
 
 pub running-start : (rows costs : List ℕ) (τ x allowance wide : ℕ) (before F G S qs ps : List ℕ) (e sum : ℕ) → Accepted rows costs τ x before
     → sum ≡ total (length costs) (has x) (costOf costs) → wide ≡ sum + 1 → Cleared (length rows) before F → (L : ℕ) → L ≡ 64 → G ≡ replicate L 0 → Begun rows τ x S
-    → Sought S (2 * τ + 1) (2 * τ) qs ps e → Running rows costs τ x allowance wide F F G S qs ps 0 e
-running-start rows costs τ x allowance wide before F G S qs ps e sum A es ew C L eL eG B Q = record {
+    → (qs₀ ps₀ : List ℕ) → Sought S (2 * τ + 1) (2 * τ) qs₀ ps₀ qs ps e → Running rows costs τ x allowance wide F F G S qs ps 0 e
+running-start rows costs τ x allowance wide before F G S qs ps e sum A es ew C L eL eG B qs₀ ps₀ Q = record {
   accepted = accepted-same rows costs τ x before F A (C .size);
   width = omega arith;
   room = netOf rows costs τ x;
@@ -101,6 +104,8 @@ running-start rows costs τ x allowance wide before F G S qs ps e sum A es ew C 
   limit = zero-le;
   size = refl;
   rest = λ i l. refl;
+  qs₀ = qs₀;
+  ps₀ = ps₀;
   sought = Q;
 }
 
@@ -154,8 +159,8 @@ module _ (rows costs : List ℕ) (τ x allowance wide : ℕ) (before F G S qs ps
           (out τ) (inn τ) source qs ps e start (path .nodes) way taken d amount)
 
       pub running-next : (F₁ G₁ S₁ : List ℕ) → PushedAlong costs wide F G S qs ps e d F₁ G₁ S₁ → k ≢ allowance
-          → (qs₁ ps₁ : List ℕ) (e₁ : ℕ) → Sought S₁ (2 * τ + 1) (2 * τ) qs₁ ps₁ e₁ → Running rows costs τ x allowance wide before F₁ G₁ S₁ qs₁ ps₁ (k + 1) e₁
-      running-next F₁ G₁ S₁ P ne qs₁ ps₁ e₁ Q = record {
+          → (qs₀ ps₀ qs₁ ps₁ : List ℕ) (e₁ : ℕ) → Sought S₁ (2 * τ + 1) (2 * τ) qs₀ ps₀ qs₁ ps₁ e₁ → Running rows costs τ x allowance wide before F₁ G₁ S₁ qs₁ ps₁ (k + 1) e₁
+      running-next F₁ G₁ S₁ P ne qs₀ ps₀ qs₁ ps₁ e₁ Q = record {
         accepted = R .accepted;
         width = R .width;
         room = push (R .room) d (out τ) (path .nodes);
@@ -173,6 +178,8 @@ module _ (rows costs : List ℕ) (τ x allowance wide : ℕ) (before F G S qs ps
         limit = (let l = R .limit in omega arith);
         size = kept .size ∙ R .size;
         rest = λ i l. kept .rest i l ∙ R .rest i l;
+        qs₀ = qs₀;
+        ps₀ = ps₀;
         sought = Q;
       }
         where

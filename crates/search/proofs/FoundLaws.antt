@@ -4,10 +4,11 @@
 -- Assumes nothing.
 --
 --   Found st N s t e Q P    what such a search has when it ends at the sink
+--   found-met               so it is where the sink is the last node met
 --   Chain P e i cs          cs has the places after i, each the parent of the next, down to e
 --   chain-taken             the nodes of a chain from place 0 are the path that a round takes
 use mathlib.Core.Path.{_≡_, refl, sym, ap, _∙_, subst}
-use mathlib.Core.Logic.{_⊎_, inl, inr}
+use mathlib.Core.Logic.{_⊎_, inl, inr, _≢_}
 use mathlib.Core.Bool.{Bool}
 use mathlib.Core.List.{List, [], _∷_, map}
 use Prim.Native.Nat.{ℕ, zero, suc, _≤_, _<_, zero-le, suc-le-suc}
@@ -19,6 +20,7 @@ use lib.ListN.{length}
 use Rattle.walks.specs.Walk.{Walk}
 use Rattle.network.specs.Rooms.{Room, step}
 use Rattle.network.specs.Paths.{Before, Taken}
+use Rattle.search.specs.Sought.{Met}
 
 -- what the search has when it ends at the sink
 pub record Found (st : ℕ → ℕ → Bool) (N s t e : ℕ) (Q P : ℕ → ℕ) : Type 0 where
@@ -32,6 +34,22 @@ pub record Found (st : ℕ → ℕ → Bool) (N s t e : ℕ) (Q P : ℕ → ℕ)
   pub order : (i j : ℕ) → 0 < i → i < j → j ≤ e → (P i < P j) ⊎ ((P i ≡ P j) × (Q i < Q j))
   -- the nodes scanned before the one from which the sink was found: each neighbour is found, from that node or an earlier one
   pub complete : (j y : ℕ) → j < P e → y < N → T (st (Q j) y) → (k : ℕ) × (k ≤ e) × (Q k ≡ y) × ((k ≡ 0) ⊎ (P k ≤ j))
+
+pub found-met : (st : ℕ → ℕ → Bool) (N s t e : ℕ) (Q P : ℕ → ℕ) → 0 < e → Met st N s (suc e) (P e) t Q P → Q e ≡ t → ((k : ℕ) → k < e → Q k ≢ t) → Found st N s t e Q P
+found-met st N s t e Q P pos M g other = record {
+  start = M .start;
+  goal = g;
+  only = λ k l q. by k l q (ℕ-discrete k e);
+  inside = λ k l. M .inside k (omega arith);
+  parent = λ i p l. M .parent i p (omega arith);
+  along = λ i p l. M .along i p (omega arith);
+  order = λ i j p l q. M .order i j p l (omega arith);
+  complete = λ j y l ly w. let f = M .complete j y (omega (arith, M .parent e pos (le-refl (suc e)))) (inl l) ly w in (f .0, omega (arith, f .1), f .2, f .3);
+}
+  where
+    by : (k : ℕ) → k ≤ e → Q k ≡ t → Dec (k ≡ e) → k ≡ e
+    by k l q (yes z) = z
+    by k l q (no z) = absurd (other k (omega arith) q)
 
 -- the places from i to e, each the parent of the next
 abbrev pub Chain : (ℕ → ℕ) → ℕ → ℕ → List ℕ → Type 0

@@ -7,7 +7,7 @@
 use mathlib.Core.Path.{_≡_, refl, sym, ap, _∙_, subst}
 use mathlib.Core.Logic.{_⊎_, inl, inr, _≢_}
 use mathlib.Core.List.{List}
-use Prim.Native.Nat.{ℕ, suc, _+_, _-_, _*_, _/_, _%_, _^_, _<_, _≤_}
+use Prim.Native.Nat.{ℕ, suc, _+_, _-_, _*_, _/_, _%_, _^_, _<_, _≤_, zero-le, suc-le-suc}
 use native.Mathlib.Nat.{le-refl}
 use native.Mathlib.Numerals.{suc-eq-add-one}
 use native.Mathlib.Omega.{arith}
@@ -23,11 +23,12 @@ use Rattle.bits.proofs.Masks.{has-pow-cases, has-xor, xor-has}
 use Rattle.bits.proofs.Lowest.{trailing-has, trailing-least, and-pred}
 use Rattle.network.specs.Rooms.{step}
 use Rattle.search.specs.Masks.{at, masked}
-use Rattle.search.specs.Sought.{Sought}
-use Rattle.search.proofs.FoundLaws.{Found}
-use Rattle.search.proofs.KeepLaws.{Keep, keep-set, keep-jump, keep-next, keep-room, keep-found, keep-add}
+use Rattle.search.specs.Sought.{Met, Sought}
+use Rattle.search.proofs.FoundLaws.{Found, found-met}
+use Rattle.search.proofs.KeepLaws.{Keep, keep-set, keep-jump, keep-next, keep-room, keep-met, keep-other, keep-add}
 use Rattle.search.proofs.MaskSteps.{step-parts, step-made}
 use Rattle.search.proofs.LeadsLaws.{path-found}
+use Rattle.search.proofs.SinceLaws.{Since, since-add, since-trans}
 use Rattle.search.proofs.OuterLaws.{Free, Unseen, Outer, Inner}
 
 -- ---- a neighbour is taken from the mask
@@ -107,18 +108,44 @@ module _ (steps : List ℕ) (s t : ℕ) (qs ps fr : List ℕ) (m h side rest : �
       atP : at (set ps m h) m ≡ h
       atP = getD-set-same ps m h 0 (omega (arith, I .sizes .parent, inner-room))
 
-      pub inner-found : b ≡ t → Found (step (masked steps)) 128 s t m (at (set qs m b)) (at (set ps m h))
-      inner-found q = keep-found (step (masked steps)) 128 s t m h (2 * trailingZeros 64 rest + side) (at qs) (at ps) (Unseen fr rest side) K (I .more) inner-lt stp new
-          (at (set qs m b)) (at (set ps m h)) sameQ sameP atQ atP (sym eb ∙ q)
+      -- what is met with it
+      met : Met (step (masked steps)) 128 s (suc m) h (2 * trailingZeros 64 rest + side) (at (set qs m b)) (at (set ps m h))
+      met = keep-met (step (masked steps)) 128 s t m h (2 * trailingZeros 64 rest + side) (at qs) (at ps) (Unseen fr rest side) K (I .more) inner-lt stp new
+          (at (set qs m b)) (at (set ps m h)) sameQ sameP atQ atP
 
-      pub inner-sought : b ≡ t → Sought steps s t (set qs m b) (set ps m h) m
-      inner-sought q = record {
+      others : (k : ℕ) → k < m → at (set qs m b) k ≢ t
+      others = keep-other (step (masked steps)) 128 s t m h (2 * trailingZeros 64 rest + side) (at qs) (at ps) (Unseen fr rest side) K (I .more) inner-lt stp new
+          (at (set qs m b)) (at (set ps m h)) sameQ sameP atQ atP
+
+      inner-found : b ≡ t → Found (step (masked steps)) 128 s t m (at (set qs m b)) (at (set ps m h))
+      inner-found q = found-met (step (masked steps)) 128 s t m (at (set qs m b)) (at (set ps m h)) (omega (arith, I .more))
+          (subst (λ (z : ℕ). Met (step (masked steps)) 128 s (suc m) z t (at (set qs m b)) (at (set ps m h))) (sym atP)
+          (subst (λ (z : ℕ). Met (step (masked steps)) 128 s (suc m) h z (at (set qs m b)) (at (set ps m h))) (sym eb ∙ q) met))
+          (atQ ∙ sym eb ∙ q) others
+
+      pub inner-sought : b ≡ t → (m₀ : ℕ) (qs₀ ps₀ qs₁ ps₁ : List ℕ) → Since 1 m₀ qs₀ ps₀ qs₁ ps₁ → Since m₀ m qs₁ ps₁ qs ps → Sought steps s t qs₀ ps₀ (set qs m b) (set ps m h) m
+      inner-sought q m₀ qs₀ ps₀ qs₁ ps₁ A B = record {
         queue = length-set qs m b ∙ I .sizes .queue;
         parent = length-set ps m h ∙ I .sizes .parent;
         place = inner-room;
         none = λ z. absurd (omega (arith, I .more));
         found = λ z. path-found steps s t m (set qs m b) (set ps m h) (inner-found q);
+        lists = record {
+          met = suc m;
+          head = h;
+          next = 2 * trailingZeros 64 rest + side;
+          places = met;
+          some = suc-le-suc zero-le;
+          ended = inr (omega (arith, I .more), refl, atP, atQ ∙ sym eb ∙ q, sym eb ∙ q);
+          before = λ i l n. others i (omega arith);
+          queue-rest = λ i l. since .queue i (omega arith);
+          parent-rest = λ i l. since .parent i (omega arith);
+          parent-first = since .first;
+        };
       }
+        where
+          since : Since 1 (m + 1) qs₀ ps₀ (set qs m b) (set ps m h)
+          since = since-trans 1 m₀ (m + 1) qs₀ ps₀ qs₁ ps₁ (set qs m b) (set ps m h) A (since-add m₀ m qs₁ ps₁ qs ps b h B)
 
       pub inner-add : b ≢ t → (p : ℕ) → p ≡ 2 ^ trailingZeros 64 rest → Inner steps s t (set qs m b) (set ps m h) fr (m + 1) h side (bitXor rest p)
       inner-add ne p ep = record {

@@ -2,7 +2,8 @@
 -- Assumes nothing.
 --
 --   Keep st N s t m h y Q P U                what holds while it goes on: `Scan`, no node stands twice in the queue, and U has just the nodes that do not stand in it
---   keep-start, keep-add, keep-found         the start; a node is met, and is not the sink; it is the sink
+--   keep-start, keep-add                     the start; a node is met, and is not the sink
+--   keep-so-far, keep-met, keep-other        what is met before and after a node is met; the others are not the sink
 --   keep-jump, keep-next, keep-end           no new neighbour from y to z; all neighbours are scanned; no place is left
 --   keep-set, keep-few, keep-room            the same nodes by another set; at most N places; one place more is there for a new node
 use mathlib.Core.Path.{_≡_, refl, sym, ap, _∙_, subst}
@@ -18,8 +19,8 @@ use Rattle.sums.proofs.TestLaws.{tested}
 use Rattle.walks.specs.Walk.{Walk}
 use Rattle.network.specs.Rooms.{pick}
 use Rattle.network.proofs.PushLaws.{pick-on, pick-off}
-use Rattle.search.proofs.FoundLaws.{Found}
-use Rattle.search.proofs.ScanLaws.{Scan, scan-start, scan-skip, scan-seen, scan-next, scan-add, scan-found, scan-end}
+use Rattle.search.specs.Sought.{Met}
+use Rattle.search.proofs.ScanLaws.{Scan, scan-start, scan-skip, scan-seen, scan-next, scan-add, scan-so-far, scan-met, scan-end}
 use Rattle.search.proofs.Distinct.{Distinct, distinct-le, distinct-add}
 
 pub record Keep (st : ℕ → ℕ → Bool) (N s t m h y : ℕ) (Q P : ℕ → ℕ) (U : ℕ → Type 0) : Type 0 where
@@ -76,6 +77,9 @@ module _ (st : ℕ → ℕ → Bool) (N s t m h y : ℕ) (Q P : ℕ → ℕ) (U 
   pub keep-end : m ≤ h → (p : List ℕ) → Walk st N s t p → ⊥
   keep-end l p w = scan-end st N s t m h y Q P (K .scan) l p w
 
+  pub keep-so-far : Met st N s m h y Q P
+  keep-so-far = scan-so-far st N s t m h y Q P (K .scan) (K .distinct)
+
   -- a node is found
   module _ (lh : h < m) (ly : y < N) (e : T (st (Q h) y)) (new : U y) where
     pub keep-room : m < N
@@ -95,13 +99,20 @@ module _ (st : ℕ → ℕ → Bool) (N s t m h y : ℕ) (Q P : ℕ → ℕ) (U 
         inside k l (no q) = omega (arith, same k (omega arith), K .scan .inside k (omega arith))
 
     module _ (Q′ P′ : ℕ → ℕ) (sameQ : (k : ℕ) → k < m → Q′ k ≡ Q k) (sameP : (k : ℕ) → k < m → P′ k ≡ P k) (atQ : Q′ m ≡ y) (atP : P′ m ≡ h) where
-      pub keep-found : y ≡ t → Found st N s t m Q′ P′
-      keep-found q = scan-found st N s t m h y Q P (K .scan) Q′ P′ sameQ sameP atQ atP lh ly e q
+      distinct′ : Distinct (suc m) Q′
+      distinct′ = distinct-add m y Q Q′ (K .distinct) sameQ atQ (K .fresh y ly new)
+
+      pub keep-met : Met st N s (suc m) h y Q′ P′
+      keep-met = scan-met st N s t m h y Q P (K .scan) Q′ P′ sameQ sameP atQ atP lh ly e distinct′
+
+      -- no other node is the sink
+      pub keep-other : (k : ℕ) → k < m → Q′ k ≢ t
+      keep-other k l q = K .scan .lacks k l (sym (sameQ k l) ∙ q)
 
       pub keep-add : y ≢ t → (W : ℕ → Type 0) → ((x : ℕ) → x < N → x ≢ y → U x → W x) → ((x : ℕ) → x < N → W x → U x) → (W y → ⊥) → Keep st N s t (suc m) h (suc y) Q′ P′ W
       keep-add q W f g off = record {
         scan = scan-add st N s t m h y Q P (K .scan) Q′ P′ sameQ sameP atQ atP lh ly e q;
-        distinct = distinct-add m y Q Q′ (K .distinct) sameQ atQ (K .fresh y ly new);
+        distinct = distinct′;
         fresh = λ x lx v k lk w. by x lx v k lk w (ℕ-discrete k m);
         held = λ x lx v. hold x lx v (ℕ-discrete x y);
       }

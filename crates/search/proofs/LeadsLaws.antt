@@ -5,7 +5,6 @@
 --   leads-top       from place 0 there is no way to go
 --   leads-up        where i is not place 0: the way from its parent, and i's node behind it
 --   path-found      a search that has met the sink leaves the path that a round takes
---   sought-unique   two results of a search: both say that no path is left, or both leave the same path
 use mathlib.Core.Path.{_≡_, refl, sym, ap, _∙_, subst}
 use mathlib.Core.Logic.{_≢_}
 use mathlib.Core.Bool.{Bool}
@@ -17,10 +16,8 @@ use native.Mathlib.Omega.{arith}
 use lib.Seq.{append-snoc}
 use Rattle.network.specs.Rooms.{step}
 use Rattle.network.specs.Paths.{Taken}
-use Rattle.network.specs.Rounds.{Stuck}
-use Rattle.network.proofs.PathLaws.{taken-unique}
 use Rattle.search.specs.Masks.{at, masked}
-use Rattle.search.specs.Sought.{Leads, Path, Sought}
+use Rattle.search.specs.Sought.{Leads, Path}
 use Rattle.search.specs.Sought.Leads.{source, onward}
 use Rattle.search.proofs.FoundLaws.{Found, Chain, chain-taken}
 
@@ -71,20 +68,3 @@ path-found steps s t e qs ps F =
       leads = r .1;
       taken = subst (λ (p : List ℕ). Taken (masked steps) 128 s t p) (r .2 .2 ∙ append-nil (r .0)) (chain-taken (masked steps) 128 s t e (at qs) (at ps) F (r .2 .0) (r .2 .1));
     }
-
--- ---- what a caller may conclude
-
--- no path is left by either, or both leave the same path
-pub data Agree (steps : List ℕ) (s t : ℕ) (qs ps : List ℕ) (e : ℕ) (qs′ ps′ : List ℕ) (e′ : ℕ) : Type 0 where
-  neither : e ≡ 0 → e′ ≡ 0 → Agree steps s t qs ps e qs′ ps′ e′
-  alike : (a : Path steps s t qs ps e) (b : Path steps s t qs′ ps′ e′) → a .nodes ≡ b .nodes → Agree steps s t qs ps e qs′ ps′ e′
-
-pub sought-unique : (steps : List ℕ) (s t : ℕ) (qs ps : List ℕ) (e : ℕ) (qs′ ps′ : List ℕ) (e′ : ℕ) → s < 128
-    → Sought steps s t qs ps e → Sought steps s t qs′ ps′ e′ → Agree steps s t qs ps e qs′ ps′ e′
-sought-unique steps s t qs ps e qs′ ps′ e′ l A B = go (ℕ-discrete e 0) (ℕ-discrete e′ 0)
-  where
-    go : Dec (e ≡ 0) → Dec (e′ ≡ 0) → Agree steps s t qs ps e qs′ ps′ e′
-    go (yes x) (yes y) = neither x y
-    go (yes x) (no y) = absurd (A .none x (B .found y .nodes) (B .found y .taken .walk))
-    go (no x) (yes y) = absurd (B .none y (A .found x .nodes) (A .found x .taken .walk))
-    go (no x) (no y) = alike (A .found x) (B .found y) (taken-unique (masked steps) 128 t s l (A .found x .nodes) (B .found y .nodes) (A .found x .taken) (B .found y .taken))

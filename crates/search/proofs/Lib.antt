@@ -4,5 +4,7 @@ pub mod ScanLaws
 pub mod KeepLaws
 pub mod MaskSteps
 pub mod LeadsLaws
+pub mod SinceLaws
 pub mod OuterLaws
 pub mod InnerLaws
+pub mod MetLaws

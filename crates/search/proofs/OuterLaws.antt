@@ -26,8 +26,9 @@ use Rattle.walks.specs.Walk.{Walk}
 use Rattle.network.specs.Rooms.{step}
 use Rattle.search.specs.Masks.{at, masked}
 use Rattle.search.specs.Sought.{Sought}
-use Rattle.search.proofs.KeepLaws.{Keep, keep-start, keep-few, keep-set, keep-end}
+use Rattle.search.proofs.KeepLaws.{Keep, keep-start, keep-few, keep-set, keep-so-far, keep-end}
 use Rattle.search.proofs.MaskSteps.{step-parts}
+use Rattle.search.proofs.SinceLaws.{Since}
 
 -- ---- the nodes that are not found yet
 
@@ -122,8 +123,26 @@ module _ (steps : List ℕ) (s t : ℕ) (qs ps fr : List ℕ) (m h : ℕ) (O : O
   pub outer-end : m ≤ h → (p : List ℕ) → Walk (step (masked steps)) 128 s t p → ⊥
   outer-end l p w = keep-end (step (masked steps)) 128 s t m h 0 (at qs) (at ps) (Free fr) (O .keep) l p w
 
-  pub outer-sought : m ≤ h → (e : ℕ) → e ≡ 0 → Sought steps s t qs ps e
-  outer-sought l e z = record { queue = O .sizes .queue; parent = O .sizes .parent; place = omega arith; none = λ q. outer-end l; found = λ q. absurd (q z) }
+  pub outer-sought : m ≤ h → (e : ℕ) → e ≡ 0 → (qs₀ ps₀ : List ℕ) → Since 1 m qs₀ ps₀ qs ps → Sought steps s t qs₀ ps₀ qs ps e
+  outer-sought l e z qs₀ ps₀ R = record {
+    queue = O .sizes .queue;
+    parent = O .sizes .parent;
+    place = omega arith;
+    none = λ q. outer-end l;
+    found = λ q. absurd (q z);
+    lists = record {
+      met = m;
+      head = h;
+      next = 0;
+      places = keep-so-far (step (masked steps)) 128 s t m h 0 (at qs) (at ps) (Free fr) (O .keep);
+      some = (let q = R .grown in omega arith);
+      ended = inl (z, (let q = O .most in omega arith));
+      before = λ i q n. O .keep .scan .lacks i q;
+      queue-rest = R .queue;
+      parent-rest = R .parent;
+      parent-first = R .first;
+    };
+  }
 
   pub outer-open : h < m → Inner steps s t qs ps (set fr (1 - at qs h % 2) (bitXor (getD fr (1 - at qs h % 2) 0) (bitAnd (getD steps (at qs h) 0) (getD fr (1 - at qs h % 2) 0)))) m h (1 - at qs h % 2)
       (bitAnd (getD steps (at qs h) 0) (getD fr (1 - at qs h % 2) 0))

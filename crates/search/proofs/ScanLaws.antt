@@ -5,7 +5,8 @@
 --   Scan st N s t m h y Q P                        it, place by place
 --   scan-start                                     the source alone is met
 --   scan-skip, scan-seen, scan-next                no step to y; y is met already; all neighbours of place h are scanned
---   scan-add, scan-found                           y is met, and is not the sink; it is the sink
+--   scan-add                                       y is met, and is not the sink
+--   scan-so-far, scan-met                          what is met before and after y is met
 --   scan-end                                       no place is left, so no path is left
 use mathlib.Core.Path.{_≡_, refl, sym, ap, _∙_, subst}
 use mathlib.Core.Logic.{_⊎_, inl, inr, _≢_}
@@ -17,7 +18,7 @@ use native.Mathlib.Decide.{ℕ-discrete}
 use native.Mathlib.Omega.{arith}
 use lib.Dec.{T}
 use Rattle.walks.specs.Walk.{Walk}
-use Rattle.search.proofs.FoundLaws.{Found}
+use Rattle.search.specs.Sought.{Met}
 
 pub record Scan (st : ℕ → ℕ → Bool) (N s t m h y : ℕ) (Q P : ℕ → ℕ) : Type 0 where
   pub some : 0 < m
@@ -138,6 +139,23 @@ module _ (st : ℕ → ℕ → Bool) (N s t m h y : ℕ) (Q P : ℕ → ℕ) (S 
           by (yes e) = S .complete j x q (inr (e, omega arith)) lx w
           by (no e) = S .complete j x q (inl (omega arith)) lx w
 
+  -- what is met so far
+  pub scan-so-far : ((i j : ℕ) → i < j → j < m → Q i ≢ Q j) → Met st N s m h y Q P
+  scan-so-far distinct = record {
+    start = S .start;
+    inside = S .inside;
+    distinct = distinct;
+    parent = S .parent;
+    along = S .along;
+    order = S .order;
+    late = λ i p l. by i (S .late i p l);
+    complete = S .complete;
+  }
+    where
+      by : (i : ℕ) → (P i < h) ⊎ ((P i ≡ h) × (Q i < y)) → (P i < h) ⊎ ((P i ≡ h) × (Q i ≤ y))
+      by i (inl z) = inl z
+      by i (inr z) = inr (z .0, (let q = z .1 in omega arith))
+
   -- no place is left: no path is left
   pub scan-end : m ≤ h → (p : List ℕ) → Walk st N s t p → ⊥
   scan-end l p w = go 0 (S .some) p (subst (λ (z : ℕ). Walk st N z t p) (sym (S .start)) w)
@@ -211,25 +229,33 @@ module _ (st : ℕ → ℕ → Bool) (N s t m h y : ℕ) (Q P : ℕ → ℕ) (S 
         by (inl z) = inl z
         by (inr z) = inr (omega (arith, sameP (f .0) (f .1)))
 
-    -- it is the sink: the search ends, and its path is the round's (Search.antt)
-    pub scan-found : y ≡ t → Found st N s t m Q′ P′
-    scan-found e = record {
+    -- it is met, be it the sink or not
+    pub scan-met : ((i j : ℕ) → i < j → j < suc m → Q′ i ≢ Q′ j) → Met st N s (suc m) h y Q′ P′
+    scan-met distinct = record {
       start = start′;
-      goal = atQ ∙ e;
-      only = λ k l q. by k l q (ℕ-discrete k m);
-      inside = λ k l. inside′ k (omega arith);
-      parent = λ i p l. parent′ i p (omega arith);
-      along = λ i p l. along′ i p (omega arith);
-      order = λ i j p l q. order′ i j p l (omega arith);
-      complete = λ j x l lx w.
-          let lj : j < h = omega (arith, atP) in
-          let f = carry j (S .complete j x (omega arith) (inl lj) lx (subst (λ (z : ℕ). T (st z x)) (sameQ j (omega arith)) w)) in
-          (f .0, omega (arith, f .1), f .2, f .3);
+      inside = inside′;
+      distinct = distinct;
+      parent = parent′;
+      along = along′;
+      order = order′;
+      late = λ i p l. by i p l (ℕ-discrete i m);
+      complete = λ j x l o lx w. all j x o lx w;
     }
       where
-        by : (k : ℕ) → k ≤ m → Q′ k ≡ t → Dec (k ≡ m) → k ≡ m
-        by k l q (yes z) = z
-        by k l q (no z) = absurd (S .lacks k (omega arith) (sym (sameQ k (omega arith)) ∙ q))
+        by : (i : ℕ) → 0 < i → i < suc m → Dec (i ≡ m) → (P′ i < h) ⊎ ((P′ i ≡ h) × (Q′ i ≤ y))
+        by i p l (yes e) = inr (ap P′ e ∙ atP, omega (arith, ap Q′ e, atQ))
+        by i p l (no e) = old (omega arith) (S .late i p (omega arith))
+          where
+            old : i < m → (P i < h) ⊎ ((P i ≡ h) × (Q i < y)) → (P′ i < h) ⊎ ((P′ i ≡ h) × (Q′ i ≤ y))
+            old li (inl z) = inl (omega (arith, sameP i li))
+            old li (inr z) = inr (sameP i li ∙ z .0, omega (arith, sameQ i li, z .1))
+
+        below : (j x : ℕ) → (j < h) ⊎ ((j ≡ h) × (x < y)) → j < m
+        below j x (inl o) = omega arith
+        below j x (inr o) = omega (arith, o .0)
+
+        all : (j x : ℕ) → (j < h) ⊎ ((j ≡ h) × (x < y)) → x < N → T (st (Q′ j) x) → (k : ℕ) × (k < suc m) × (Q′ k ≡ x) × ((k ≡ 0) ⊎ (P′ k ≤ j))
+        all j x o lx w = carry j (S .complete j x (below j x o) o lx (subst (λ (z : ℕ). T (st z x)) (sameQ j (below j x o)) w))
 
     -- it is another node, not found before
     pub scan-add : y ≢ t → Scan st N s t (suc m) h (suc y) Q′ P′

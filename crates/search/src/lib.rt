@@ -15,7 +15,7 @@ pub fn search(
     parent: &mut [u8; 128],
 ) -> usize
     requires { ⌜ Ready s t (now queue) (now parent) ⌝ }
-    ensures { λ r. ⌜ Sought (now (steps .entry)) s t (now (queue .exit)) (now (parent .exit)) r ⌝ }
+    ensures { λ r. ⌜ Sought (now (steps .entry)) s t (now (queue .entry)) (now (parent .entry)) (now (queue .exit)) (now (parent .exit)) r ⌝ }
 {
     let mut free = [FULL; 2];
     free[s % 2] = FULL ^ (1u64 << (s / 2));

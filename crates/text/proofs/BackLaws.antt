@@ -1,10 +1,15 @@
--- What was spelt is read back.
+-- What was spelt is read back: the definitions of reading and of writing agree.
 -- Assumes nothing.
+--
+--   digit-spelt      the digit worth d is a digit, and worth d
+--   spell-at         digit i of k
+--   number-back      a number is read from its digits, wherever they stand
+--   number-spell     a number spelt in 2k digits is read back as k bytes
 use mathlib.Core.Path.{_≡_, refl, sym, ap, _∙_, subst}
 use mathlib.Core.Bool.{Bool, true, false, cond}
 use mathlib.Core.List.{List, [], _∷_, _++_}
 use Prim.Native.Nat.{ℕ, zero, suc, _+_, _*_, _-_, _/_, _%_, _^_, _<_, _≤_}
-use native.Mathlib.Nat.{pow-suc, div-div-eq-div-mul, div-one, mod-lt, one-le-pow}
+use native.Mathlib.Nat.{zero-add, pow-suc, div-div-eq-div-mul, div-one, mod-lt, one-le-pow}
 use native.Mathlib.Decide.{decLt}
 use native.Mathlib.Omega.{arith}
 use borrow.Author.Tests.{lt-ltb, le-ltb}
@@ -26,7 +31,6 @@ digit-spelt d l = go (decLt d 10)
         let q = letter (55 + d) (omega arith) (omega arith) (omega arith) (omega arith) in
         rw (← spelt-high d b) (q .0, q .1 ∙ let e : 55 + d - 55 ≡ d = omega arith in e)
 
--- digit i of k
 pub spell-at : (k x i : ℕ) → i < k → getD (spell k x) i 0 ≡ spelt (x / 16 ^ (k - suc i) % 16)
 unfolding spell
 spell-at zero x i l = absurd (omega arith)
@@ -38,7 +42,6 @@ shift x a b e =
     let p : 16 ^ suc (suc b) ≡ 256 * 16 ^ b = let u = pow-suc 16 (suc b) in let v = pow-suc 16 b in omega (arith, u, v) in
     rw (e, p) (sym (div-div-eq-div-mul x 256 (16 ^ b)))
 
--- a number is read from its digits, wherever they stand
 pub number-back : (k : ℕ) (t : List ℕ) (at x : ℕ) → ((i : ℕ) → i < 2 * k → getD t (at + i) 0 ≡ spelt (x / 16 ^ (2 * k - suc i) % 16)) → number t at k ≡ x % 256 ^ k
 unfolding number byteAt
 number-back zero t at x h = omega arith
@@ -53,3 +56,6 @@ number-back (suc k) t at x h =
     ∙ ap digit (h (2 * k + 1) (omega arith)) ∙ digit-spelt (x / 16 ^ (2 * suc k - suc (2 * k + 1)) % 16) (mod-lt _ (lit< tt)) .1 ∙ ap (λ (e : ℕ). x / 16 ^ e % 16) b ∙ ap (λ (e : ℕ). e % 16) (div-one x) in
     let m = mod-mul x {m = 256 ^ k} {c = 256} (one-le-pow k 256 (lit< tt)) (lit< tt) in
     rw (pow-suc 256 k, m, ih, f, g) (omega arith)
+
+pub number-spell : (k x : ℕ) → number (spell (2 * k) x) 0 k ≡ x % 256 ^ k
+number-spell k x = number-back k (spell (2 * k) x) 0 x (λ i l. ap (λ (e : ℕ). getD (spell (2 * k) x) e 0) (zero-add i) ∙ spell-at (2 * k) x i l)

@@ -48,7 +48,7 @@ search-requires : tie.Need-search-requires Inv-loop μ-loop
 search-requires c κs = accepted-ready _ _ _ _ _ _ _ (c .before .before .before .before .before .before .before .before .before .before .before .before .before .pre) refl refl
 
 loop-holds : tie.Need-loop-holds Inv-loop μ-loop
-loop-holds c = running-start _ _ _ _ _ _ _ _ _ _ _ _ _ _ (c .before .before .before .before .before .before .before .before .before .before .before .before .before .before .pre) (c .before .before .before .before .before .before .before .before .before .before .total-cost .ensures) refl (c .before .before .before .before .before .before .before .before .clear .ensures) 64 refl refl (c .before .before .before .before .begin .ensures) (c .search .ensures)
+loop-holds c = running-start _ _ _ _ _ _ _ _ _ _ _ _ _ _ (c .before .before .before .before .before .before .before .before .before .before .before .before .before .before .pre) (c .before .before .before .before .before .before .before .before .before .before .total-cost .ensures) refl (c .before .before .before .before .before .before .before .before .clear .ensures) 64 refl refl (c .before .before .before .before .begin .ensures) _ _ (c .search .ensures)
 
 same-length : tie.Need-same-length Inv-loop μ-loop
 same-length c = c .before .before .loop .inv .size ∙ c .before .before .before .before .before .before .before .before .before .before .before .clear .ensures .size
@@ -81,7 +81,7 @@ loop-less : tie.Need-loop-less Inv-loop μ-loop
 loop-less c = omega (arith, c .before .before .before .before .before .before .before .before .before .before .before .before .before .before .before .before .before .before .before .loop .inv .limit, c .before .before .before .before .before .before .before .before .before .before .before .before .before .before .before .before .before .if1 .left)
 
 loop-again : tie.Need-loop-again Inv-loop μ-loop
-loop-again c = running-next _ _ _ _ _ _ _ _ _ _ _ _ _ _ (c .before .before .before .before .before .before .before .before .before .before .before .before .before .before .before .before .before .before .before .loop .inv) (c .before .before .before .before .before .before .before .before .before .before .before .before .before .before .before .before .before .before .loop-test .taken) _ (c .before .before .before .before .before .before .before .before .before .before .before .before .amount .ensures) _ _ _ (c .before .before .before .before .before .before .push .ensures) (c .before .before .before .before .before .before .before .before .before .before .before .before .before .before .before .before .before .if1 .left) _ _ _ (c .search2 .ensures)
+loop-again c = running-next _ _ _ _ _ _ _ _ _ _ _ _ _ _ (c .before .before .before .before .before .before .before .before .before .before .before .before .before .before .before .before .before .before .before .loop .inv) (c .before .before .before .before .before .before .before .before .before .before .before .before .before .before .before .before .before .before .loop-test .taken) _ (c .before .before .before .before .before .before .before .before .before .before .before .before .amount .ensures) _ _ _ (c .before .before .before .before .before .before .push .ensures) (c .before .before .before .before .before .before .before .before .before .before .before .before .before .before .before .before .before .if1 .left) _ _ _ _ _ (c .search2 .ensures)
 
 sink-side-requires : tie.Need-sink-side-requires Inv-loop μ-loop
 sink-side-requires c κs = running-sidable _ _ _ _ _ _ _ _ _ _ _ _ _ _ (c .before .before .loop .inv)

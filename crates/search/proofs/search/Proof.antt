@@ -6,6 +6,7 @@ use mathlib.Core.Path.{_≡_, refl, sym, ap, _∙_, subst}
 use mathlib.Core.Logic.{⊎-elim, inl, inr}
 use lib.ListN.{length, getD, set, length-set}
 use Rattle.bits.proofs.Digits.{one-shl}
+use Rattle.search.proofs.SinceLaws.{Since, since-none, since-source, since-add, since-trans}
 use Rattle.search.proofs.OuterLaws.{Outer, Inner, outer-start, outer-few, outer-node, outer-sought, outer-open}
 use Rattle.search.proofs.InnerLaws.{inner-close, low-lt, inner-lt, inner-room, inner-sought, inner-more}
 use native.Mathlib.Omega.{arith}
@@ -16,14 +17,14 @@ use Rattle.search.proofs.search.Lts as lts
 
 abbrev Inv-loop : tie.InvT-loop
 Inv-loop steps s t queue₀ parent₀ free met₀ head found₀ a side rest₀ queue parent met found rest =
-    Inner steps s t queue parent free met head side rest × (found ≡ 0)
+    Inner steps s t queue parent free met head side rest × (found ≡ 0) × Since met₀ met queue₀ parent₀ queue parent
 
 abbrev μ-loop : tie.MeasureT-loop
 μ-loop steps s t queue₀ parent₀ free met₀ head found₀ a side rest₀ queue parent met found rest = 128 - met
 
 abbrev Inv-search : tie.InvT-search
 Inv-search steps s t queue₀ parent₀ free₀ met₀ head₀ found₀ queue parent free met head found =
-    Outer steps s t queue parent free met head × (found ≡ 0)
+    Outer steps s t queue parent free met head × (found ≡ 0) × Since 1 met queue₀ parent₀ queue parent
 
 abbrev μ-search : tie.MeasureT-search
 μ-search steps s t queue₀ parent₀ free₀ met₀ head₀ found₀ queue parent free met head found = 128 - head
@@ -44,7 +45,7 @@ element-write-queue : tie.Need-element-write-queue Inv-loop μ-loop Inv-search �
 element-write-queue c = omega arith
 
 search-holds : tie.Need-search-holds Inv-loop μ-loop Inv-search μ-search
-search-holds c = (rw (one-shl (c .args .s / 2) (let l = c .pre .source in omega arith)) (outer-start (c .args .steps .now) _ _ (c .args .queue .now) _ 2 refl (c .pre .source) (c .pre .apart) (c .pre .queue) (c .pre .parent) _ refl), refl)
+search-holds c = (rw (one-shl (c .args .s / 2) (let l = c .pre .source in omega arith)) (outer-start (c .args .steps .now) _ _ (c .args .queue .now) _ 2 refl (c .pre .source) (c .pre .apart) (c .pre .queue) (c .pre .parent) _ refl), refl, since-none 1 _ _ (omega arith))
 
 few : (c : tie.In-search Inv-loop μ-loop Inv-search μ-search) → c .before .search .met ≤ 128
 few c = outer-few _ _ _ _ _ _ _ _ (c .before .search .inv .0)
@@ -83,7 +84,7 @@ array-write-free-2 : tie.Need-array-write-free-2 Inv-loop μ-loop Inv-search μ-
 array-write-free-2 c = omega arith
 
 loop-holds : tie.Need-loop-holds Inv-loop μ-loop Inv-search μ-search
-loop-holds c = (outer-open _ _ _ _ _ _ _ _ (c .before .before .before .search .inv .0) (c .before .before .search-test .taken), c .before .before .before .search .inv .1)
+loop-holds c = (outer-open _ _ _ _ _ _ _ _ (c .before .before .before .search .inv .0) (c .before .before .search-test .taken), c .before .before .before .search .inv .1, since-none _ _ _ (c .before .before .before .search .inv .2 .grown))
 
 low : (c : tie.In-loop Inv-loop μ-loop Inv-search μ-search) → trailingZeros 64 (c .before .loop .rest) < 64
 low c = low-lt _ _ _ _ _ _ _ _ _ _ (c .before .loop .inv .0) (c .loop-test .taken)
@@ -122,7 +123,7 @@ loop-less : tie.Need-loop-less Inv-loop μ-loop Inv-search μ-search
 loop-less c = let l = room (c .before) in omega arith
 
 loop-again : tie.Need-loop-again Inv-loop μ-loop Inv-search μ-search
-loop-again c = (inner-more _ _ _ _ _ _ _ _ _ _ (c .before .before .loop .inv .0) (c .before .loop-test .taken) _ refl (c .if1 .left), c .before .before .loop .inv .1)
+loop-again c = (inner-more _ _ _ _ _ _ _ _ _ _ (c .before .before .loop .inv .0) (c .before .loop-test .taken) _ refl (c .if1 .left), c .before .before .loop .inv .1, since-add _ _ _ _ _ _ _ _ (c .before .before .loop .inv .2))
 
 add-head : tie.Need-add-head Inv-loop μ-loop Inv-search μ-search
 add-head c = let l = few (c .before .before .before .before) in omega arith
@@ -131,13 +132,13 @@ search-less : tie.Need-search-less Inv-loop μ-loop Inv-search μ-search
 search-less c = let l = few (c .before .before .before .before) in omega arith
 
 search-again : tie.Need-search-again Inv-loop μ-loop Inv-search μ-search
-search-again c = (inner-close _ _ _ _ _ _ _ _ _ _ (c .before .loop .inv .0) (c .loop-test .left), c .before .loop .inv .1)
+search-again c = (inner-close _ _ _ _ _ _ _ _ _ _ (c .before .loop .inv .0) (c .loop-test .left), c .before .loop .inv .1, since-trans _ _ _ _ _ _ _ _ _ (c .before .before .before .before .before .search .inv .2) (c .before .loop .inv .2))
 
 returns : tie.Need-returns Inv-loop μ-loop Inv-search μ-search
-returns c = outer-sought _ _ _ _ _ _ _ _ (c .before .search .inv .0) (c .search-test .left) _ (c .before .search .inv .1)
+returns c = outer-sought _ _ _ _ _ _ _ _ (c .before .search .inv .0) (c .search-test .left) _ (c .before .search .inv .1) _ _ (since-trans _ _ _ _ _ _ _ _ _ (since-source _ _ _) (c .before .search .inv .2))
 
 returns-2 : tie.Need-returns-2 Inv-loop μ-loop Inv-search μ-search
-returns-2 c = inner-sought _ _ _ _ _ _ _ _ _ _ (c .before .before .loop .inv .0) (c .before .loop-test .taken) _ refl (c .if1 .taken)
+returns-2 c = inner-sought _ _ _ _ _ _ _ _ _ _ (c .before .before .loop .inv .0) (c .before .loop-test .taken) _ refl (c .if1 .taken) _ _ _ _ _ (since-trans _ _ _ _ _ _ _ _ _ (since-source _ _ _) (c .before .before .before .before .before .before .search .inv .2)) (c .before .before .loop .inv .2)
 
 pub search-spec : {M : Type 1} → statement M
 search-spec =
