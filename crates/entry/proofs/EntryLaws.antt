@@ -2,6 +2,7 @@
 -- Assumes nothing.
 --
 --   entry-unique      two results of a call are equal, and so are the lists that it leaves; on all inputs
+--   refused-byte      a byte fault is refused
 --   read-lists        what was read are the numbers of the lists, so the verdict call is the one that the statement names
 --   flows-size        the flows are n × n
 --   entered-refused   a refusal of the verdict call is one of the entry
@@ -24,10 +25,11 @@ use Rattle.verdict.specs.Answers.{number}
 use Rattle.verdict.specs.Called.{Called}
 use Rattle.verdict.specs.Called.Called.{refuses as turnsDown, answers as decides}
 use Rattle.verdict.proofs.CallLaws.{call-unique}
+use Rattle.entry.specs.Faults.{EntryFault}
 use Rattle.entry.specs.Entered.{frameOf, Entered}
 use Rattle.entry.specs.Entered.Entered.{refuses, answers}
 use Rattle.entry.specs.Inside.{Given, Shaped, Lent}
-use Rattle.entry.proofs.FaultLaws.{count, refusal-unique, refuse-number, shaped-faultless}
+use Rattle.entry.proofs.FaultLaws.{count, Passed, refusal-unique, refuse-byte, refuse-number, shaped-faultless}
 
 -- how many flows there are
 abbrev pub square : List ℕ → ℕ
@@ -47,6 +49,10 @@ module _ (rows costs : List ℕ) (τ allowance : ℕ) (work answer : List ℕ) w
       let q = call-unique (numbersOf rows) (numbersOf costs) τ allowance (replicate (square rows) 0) (Decided d) (Decided e) flows flows′ b c in
       let p : d ≡ e = cc (q .0) in
       (refl, ap (λ (z : List ℕ). allBytes z ++ drop (8 * length z) work) (q .1), ap (λ (z : Decision). answerBytes (frameOf z) ++ drop 22 answer) p)
+
+  -- a byte fault found after the checks before it is the refusal that is due, and nothing was written
+  pub refused-byte : (m : ℕ) → Passed rows costs m → EntryFault rows costs τ (length work) (length answer) m → Entered rows costs τ allowance work answer m work answer
+  refused-byte m P f = refuses m (refuse-byte rows costs τ (length work) (length answer) m P f)
 
   -- ---- the call on the numbers
 

@@ -1,2 +1,3 @@
 pub mod FaultLaws
 pub mod EntryLaws
+pub mod SizeLaws

@@ -2,6 +2,7 @@
 --
 --   Given d flows ..                the bytes of the flows and of the answer frame of d are written
 --   Shaped rows costs work answer   the lists of bytes are as refusals 1 to 3 leave them; n is the number of rows
+--   Sized .. n k                    the same, where n is at most k
 --   Lent ..                         the same, with lists of numbers for n rows, n costs and n × n flows, the flows 0
 use mathlib.Core.Path.{_≡_}
 use mathlib.Core.List.{List, _++_}
@@ -23,6 +24,11 @@ pub record Shaped (rows costs : List ℕ) (work answer : ℕ) : Type 0 where
   pub priced : length costs ≡ length rows
   pub room : length rows / 8 * (length rows / 8) ≤ work / 8
   pub places : 22 ≤ answer
+
+pub record Sized (rows costs : List ℕ) (work answer n k : ℕ) : Type 0 where
+  pub shape : Shaped rows costs work answer
+  pub count : n ≡ length rows / 8
+  pub limit : n ≤ k
 
 pub record Lent (rows costs rowList costList flows work answer : List ℕ) : Type 0 where
   pub shape : Shaped rows costs (length work) (length answer)
