@@ -1,0 +1,3 @@
+pub mod FaultLaws
+pub mod EntryLaws
+pub mod SizeLaws

@@ -1,0 +1,124 @@
+-- `entry::pasagumdil_verdict`: the byte checks, each with its refusal, then the call with lists of the size that n asks for.
+use native.Mathlib.Omega.{arith}
+use Rattle.entry.specs.Faults.EntryFault.{brokenRows, narrow}
+use Rattle.entry.proofs.FaultLaws.{passed-1, passed-2, passed-3, fault-empty, fault-crowded, fault-uneven, fault-short}
+use Rattle.entry.proofs.EntryLaws.{refused-byte}
+use Rattle.entry.proofs.SizeLaws.{square-under}
+use borrow.Author.Needs.{needs}
+use Rattle.entry.proofs.pasagumdil_verdict.Statement.{statement}
+use Rattle.entry.proofs.pasagumdil_verdict.Tie as tie
+use Rattle.entry.proofs.pasagumdil_verdict.Reads as reads
+use Rattle.entry.proofs.pasagumdil_verdict.Lts as lts
+use Rattle.entry.proofs.call_16.Reads as call-16-reads
+use Rattle.entry.proofs.call_32.Reads as call-32-reads
+use Rattle.entry.proofs.call_64.Reads as call-64-reads
+use Rattle.entry.proofs.call_8.Reads as call-8-reads
+
+returns : tie.Need-returns
+returns c =
+    let s = c .before .before .before .before .before in
+    refused-byte (s .args .rows .now) (s .args .costs .now) (s .args .t) (s .args .allowance) (s .args .work .now) (s .args .answer .now) 1 (passed-1 _ _) (brokenRows (c .if1 .taken))
+
+returns-2 : tie.Need-returns-2
+returns-2 c =
+    let s = c .before .before .before .before .before .before in
+    refused-byte (s .args .rows .now) (s .args .costs .now) (s .args .t) (s .args .allowance) (s .args .work .now) (s .args .answer .now) 1 (passed-1 _ _) (fault-empty _ _ _ _ _ (c .if2 .taken))
+
+returns-3 : tie.Need-returns-3
+returns-3 c =
+    let s = c .before .before .before .before .before .before .before in
+    refused-byte (s .args .rows .now) (s .args .costs .now) (s .args .t) (s .args .allowance) (s .args .work .now) (s .args .answer .now) 1 (passed-1 _ _) (fault-crowded _ _ _ _ _ (c .if3 .taken))
+
+returns-4 : tie.Need-returns-4
+returns-4 c =
+    let s = c .before .before .before .before .before .before .before .before in
+    refused-byte (s .args .rows .now) (s .args .costs .now) (s .args .t) (s .args .allowance) (s .args .work .now) (s .args .answer .now) 2 (passed-2 _ _ (c .before .before .before .if1 .left) (c .before .before .if2 .left) (c .before .if3 .left)) (fault-uneven _ _ _ _ _ (c .before .before .before .if1 .left) (c .if4 .taken))
+
+returns-5 : tie.Need-returns-5
+returns-5 c =
+    let s = c .before .before .before .before .before .before .before .before .before in
+    refused-byte (s .args .rows .now) (s .args .costs .now) (s .args .t) (s .args .allowance) (s .args .work .now) (s .args .answer .now) 3 (passed-3 _ _ (passed-2 _ _ (c .before .before .before .before .if1 .left) (c .before .before .before .if2 .left) (c .before .before .if3 .left)) (c .before .if4 .left)) (narrow (c .if5 .taken))
+
+mul-if6 : tie.Need-mul-if6
+mul-if6 c = omega (arith, square-under _ 64 (c .before .before .if3 .left))
+
+returns-6 : tie.Need-returns-6
+returns-6 c =
+    let s = c .before .before .before .before .before .before .before .before .before .before in
+    refused-byte (s .args .rows .now) (s .args .costs .now) (s .args .t) (s .args .allowance) (s .args .work .now) (s .args .answer .now) 3 (passed-3 _ _ (passed-2 _ _ (c .before .before .before .before .before .if1 .left) (c .before .before .before .before .if2 .left) (c .before .before .before .if3 .left)) (c .before .before .if4 .left)) (fault-short _ _ _ _ _ (c .if6 .taken))
+
+call-8-requires : tie.Need-call-8-requires
+call-8-requires c κs = search needs
+
+same-length : tie.Need-same-length
+same-length c = search needs
+
+same-length-2 : tie.Need-same-length-2
+same-length-2 c = search needs
+
+returns-7 : tie.Need-returns-7
+returns-7 c = search needs
+
+call-16-requires : tie.Need-call-16-requires
+call-16-requires c κs = search needs
+
+same-length-3 : tie.Need-same-length-3
+same-length-3 c = search needs
+
+same-length-4 : tie.Need-same-length-4
+same-length-4 c = search needs
+
+returns-8 : tie.Need-returns-8
+returns-8 c = search needs
+
+call-32-requires : tie.Need-call-32-requires
+call-32-requires c κs = search needs
+
+same-length-5 : tie.Need-same-length-5
+same-length-5 c = search needs
+
+same-length-6 : tie.Need-same-length-6
+same-length-6 c = search needs
+
+returns-9 : tie.Need-returns-9
+returns-9 c = search needs
+
+call-64-requires : tie.Need-call-64-requires
+call-64-requires c κs = search needs
+
+same-length-7 : tie.Need-same-length-7
+same-length-7 c = search needs
+
+same-length-8 : tie.Need-same-length-8
+same-length-8 c = search needs
+
+returns-10 : tie.Need-returns-10
+returns-10 c = search needs
+
+pub pasagumdil-verdict-spec : {M : Type 1} → statement M
+pasagumdil-verdict-spec =
+    tie.close
+    (tie.spec
+    returns
+    returns-2
+    returns-3
+    returns-4
+    returns-5
+    mul-if6
+    returns-6
+    call-8-requires
+    same-length
+    same-length-2
+    returns-7
+    call-16-requires
+    same-length-3
+    same-length-4
+    returns-8
+    call-32-requires
+    same-length-5
+    same-length-6
+    returns-9
+    call-64-requires
+    same-length-7
+    same-length-8
+    returns-10)

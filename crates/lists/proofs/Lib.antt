@@ -1,0 +1,3 @@
+pub mod ReadLaws
+pub mod ByteLists
+pub mod WriteLaws

@@ -1,0 +1,203 @@
+-- Numbers written into bytes that were zeroed before: those that are 0 are passed over.
+-- Assumes nothing.
+--
+--   zeros-eight          eight numbers whose | is 0 are 0
+--   up-..                the numbers below a place, and 0 for the others: one more, those that are 0, all
+--   Writing              the invariant of both loops: the numbers below i are written
+--   writing-..           its start, a number, what `write_part` asks and leaves, the end
+--   Clearing             the invariant of the loop that zeroes bytes; clearing-start, clearing-turn, clearing-end
+use mathlib.Core.Path.{_≡_, refl, sym, ap, _∙_}
+use mathlib.Core.Logic.{_⊎_, inl, inr}
+use mathlib.Core.List.{List, [], _∷_, _++_, append-nil}
+use Prim.Native.Nat.{ℕ, zero, suc, _+_, _*_, _-_, _<_, _≤_, zero-le}
+use native.Mathlib.Nat.{add-zero, sub-zero, le-refl}
+use native.Mathlib.Numerals.{add-one}
+use native.Mathlib.Omega.{arith}
+use borrow.Author.Fill.{fill-none, fill-more}
+use lib.Bits.{bitOr, or-comm}
+use lib.ListN.{length, getD, take, drop, set, replicate, length-append, length-drop, length-set, length-replicate}
+use lib.Seq.{take-suc, take-length, length-take-le, set-at, append-snoc, drop-at}
+use Rattle.bits.proofs.Masks.{or-le}
+use Rattle.codec.specs.Bytes.{bytesOf}
+use Rattle.lists.specs.Numbers.{allBytes}
+use Rattle.lists.specs.Inside.{upTo, written, Writable, Zeros}
+use Rattle.lists.proofs.ByteLists.{all-length, all-zero, all-put}
+
+-- ---- eight numbers that are 0
+
+or-both : (a b : ℕ) → bitOr a b ≡ 0 → (a ≡ 0) × (b ≡ 0)
+or-both a b e = (omega (arith, e, or-le a b), omega (arith, e, or-comm a b, or-le b a))
+
+or-four : (a b c d : ℕ) → bitOr (bitOr (bitOr a b) c) d ≡ 0 → (a ≡ 0) × (b ≡ 0) × (c ≡ 0) × (d ≡ 0)
+or-four a b c d e =
+    let x = or-both (bitOr (bitOr a b) c) d e in
+    let y = or-both (bitOr a b) c (x .0) in
+    let z = or-both a b (y .0) in
+    (z .0, z .1, y .1, x .1)
+
+or-eight : (a b c d e f g h : ℕ) → bitOr (bitOr (bitOr (bitOr a b) c) d) (bitOr (bitOr (bitOr e f) g) h) ≡ 0
+    → ((a ≡ 0) × (b ≡ 0) × (c ≡ 0) × (d ≡ 0)) × ((e ≡ 0) × (f ≡ 0) × (g ≡ 0) × (h ≡ 0))
+or-eight a b c d e f g h z =
+    let x = or-both (bitOr (bitOr (bitOr a b) c) d) (bitOr (bitOr (bitOr e f) g) h) z in
+    (or-four a b c d (x .0), or-four e f g h (x .1))
+
+pub zeros-eight : (l : List ℕ) (at : ℕ)
+    → bitOr (bitOr (bitOr (bitOr (getD l at 0) (getD l (at + 1) 0)) (getD l (at + 2) 0)) (getD l (at + 3) 0))
+    (bitOr (bitOr (bitOr (getD l (at + 4) 0) (getD l (at + 5) 0)) (getD l (at + 6) 0)) (getD l (at + 7) 0)) ≡ 0 → Zeros l at 8
+zeros-eight l at e =
+    let x = or-eight (getD l at 0) (getD l (at + 1) 0) (getD l (at + 2) 0) (getD l (at + 3) 0) (getD l (at + 4) 0) (getD l (at + 5) 0) (getD l (at + 6) 0) (getD l (at + 7) 0) e in
+    go (x .0) (x .1)
+  where
+    go : (getD l at 0 ≡ 0) × (getD l (at + 1) 0 ≡ 0) × (getD l (at + 2) 0 ≡ 0) × (getD l (at + 3) 0 ≡ 0)
+        → (getD l (at + 4) 0 ≡ 0) × (getD l (at + 5) 0 ≡ 0) × (getD l (at + 6) 0 ≡ 0) × (getD l (at + 7) 0 ≡ 0) → Zeros l at 8
+    go p q zero lt = rw (add-zero at) (p .0)
+    go p q (suc zero) lt = p .1
+    go p q (suc (suc zero)) lt = p .2
+    go p q (suc (suc (suc zero))) lt = p .3
+    go p q (suc (suc (suc (suc zero)))) lt = q .0
+    go p q (suc (suc (suc (suc (suc zero))))) lt = q .1
+    go p q (suc (suc (suc (suc (suc (suc zero)))))) lt = q .2
+    go p q (suc (suc (suc (suc (suc (suc (suc zero))))))) lt = q .3
+    go p q (suc (suc (suc (suc (suc (suc (suc (suc j)))))))) lt = absurd (omega arith)
+
+-- ---- the numbers below a place
+
+module _ (list : List ℕ) where
+  up-here : (i : ℕ) → i < length list → upTo list i ≡ take i list ++ 0 ∷ replicate (length list - suc i) 0
+  unfolding upTo
+  up-here i l = let e : length list - i ≡ suc (length list - suc i) = omega arith in rw e refl
+
+  up-next : (i : ℕ) → i < length list → upTo list (suc i) ≡ take i list ++ getD list i 0 ∷ replicate (length list - suc i) 0
+  unfolding upTo
+  up-next i l = rw (take-suc list i 0 l) (append-snoc (take i list) (getD list i 0) (replicate (length list - suc i) 0))
+
+  up-skip : (i : ℕ) → i < length list → getD list i 0 ≡ 0 → upTo list (suc i) ≡ upTo list i
+  up-skip i l e = up-next i l ∙ rw e (sym (up-here i l))
+
+  up-put : (i : ℕ) → i < length list → set (upTo list i) i (getD list i 0) ≡ upTo list (suc i)
+  up-put i l = rw (up-here i l) (set-at (take i list) 0 (replicate (length list - suc i) 0) (getD list i 0) i (length-take-le i list (omega arith))) ∙ sym (up-next i l)
+
+  up-zeros : (at k : ℕ) → at + k ≤ length list → Zeros list at k → upTo list (at + k) ≡ upTo list at
+  up-zeros at zero l z = rw (add-zero at) refl
+  up-zeros at (suc k) l z =
+      let e : at + suc k ≡ suc (at + k) = omega arith in
+      rw e (up-skip (at + k) (omega arith) (z k (omega arith))) ∙ up-zeros at k (omega arith) (λ j lt. z j (omega arith))
+
+  up-length : (i : ℕ) → i ≤ length list → length (upTo list i) ≡ length list
+  unfolding upTo
+  up-length i l = omega (arith, length-append (take i list) (replicate (length list - i) 0), length-take-le i list l, length-replicate {A = ℕ} (length list - i) 0)
+
+  up-all : upTo list (length list) ≡ list
+  unfolding upTo
+  up-all = let z : length list - length list ≡ 0 = omega arith in rw (z, take-length list) (append-nil list)
+
+-- ---- the bytes of them
+
+-- of the numbers to below `end` those below i are written into the bytes b₀
+pub record Writing (list b₀ b : List ℕ) (end i : ℕ) : Type 0 where
+  pub under : i ≤ end
+  pub inside : end ≤ length list
+  pub room : 8 * length list ≤ length b₀
+  pub size : length b ≡ length b₀
+  pub done : b ≡ written list i b₀
+
+module _ (list b₀ : List ℕ) where
+  written-size : (i : ℕ) → i ≤ length list → 8 * length list ≤ length b₀ → length (written list i b₀) ≡ length b₀
+  unfolding written
+  written-size i l room =
+      omega (arith, length-append (allBytes (upTo list i)) (drop (8 * length list) b₀), all-length (upTo list i), up-length list i l, length-drop (8 * length list) b₀)
+
+  written-rest : (i : ℕ) → i ≤ length list → drop (8 * length list) (written list i b₀) ≡ drop (8 * length list) b₀
+  unfolding written
+  written-rest i l = drop-at (allBytes (upTo list i)) (drop (8 * length list) b₀) (8 * length list) (all-length (upTo list i) ∙ ap (λ (z : ℕ). 8 * z) (up-length list i l))
+
+  module _ (b : List ℕ) (end i : ℕ) (W : Writing list b₀ b end i) where
+    -- the bytes b′, written to below j
+    next : (b′ : List ℕ) (j : ℕ) → j ≤ end → b′ ≡ written list j b₀ → Writing list b₀ b′ end j
+    next b′ j l e = record { under = l; inside = W .inside; room = W .room; size = ap length e ∙ written-size j (omega (arith, W .inside)) (W .room); done = e }
+
+    -- a number is put, or it is 0
+    pub writing-turn : (b′ : List ℕ) → i < end
+        → (b′ ≡ take (8 * i) b ++ bytesOf 8 (getD list i 0) ++ drop (8 * i + 8) b) ⊎ ((getD list i 0 ≡ 0) × (b′ ≡ b)) → Writing list b₀ b′ end (i + 1)
+    unfolding written
+    writing-turn b′ l (inl e) =
+        let u = up-length list i (omega (arith, W .inside)) in
+        let m : i < length list = omega (arith, W .inside) in
+        let n : i < length (upTo list i) = omega arith in
+        next b′ (i + 1) (omega arith) (e ∙ rw (W .done, add-one i, ← up-put list i m) (all-put (upTo list i) (drop (8 * length list) b₀) i (getD list i 0) n))
+    writing-turn b′ l (inr (z, e)) = next b′ (i + 1) (omega arith) (e ∙ W .done ∙ rw (add-one i, up-skip list i (omega (arith, W .inside)) z) refl)
+
+    -- a call of `write_part`: what it asks
+    pub writing-asks : (j : ℕ) → i ≤ j → j ≤ end → Writable list i j b
+    unfolding written
+    writing-asks j l m = record {
+      order = l;
+      inside = omega (arith, W .inside);
+      room = omega (arith, W .size, W .room);
+      so-far =
+          W .done ∙ ap (λ (z : List ℕ). allBytes (upTo list i) ++ z)
+          (sym (written-rest i (omega (arith, W .inside))) ∙ ap (λ (z : List ℕ). drop (8 * length list) z) (sym (W .done)));
+    }
+
+    -- the numbers to below j are written by it, or they are 0
+    pub writing-part : (b′ : List ℕ) (k : ℕ) → i + k ≤ end → (b′ ≡ written list (i + k) b) ⊎ (Zeros list i k × (b′ ≡ b)) → Writing list b₀ b′ end (i + k)
+    unfolding written
+    writing-part b′ k l (inl e) =
+        next b′ (i + k) l
+        (e ∙ ap (λ (z : List ℕ). allBytes (upTo list (i + k)) ++ z)
+        (ap (λ (z : List ℕ). drop (8 * length list) z) (W .done) ∙ written-rest i (omega (arith, W .under, W .inside))))
+    writing-part b′ k l (inr (z, e)) = next b′ (i + k) l (e ∙ W .done ∙ rw (up-zeros list i k (omega (arith, W .inside)) z) refl)
+
+    -- the last call of it
+    pub writing-rest : (b′ : List ℕ) → b′ ≡ written list end b → b′ ≡ written list end b₀
+    unfolding written
+    writing-rest b′ e =
+        e ∙ ap (λ (z : List ℕ). allBytes (upTo list end) ++ z)
+        (ap (λ (z : List ℕ). drop (8 * length list) z) (W .done) ∙ written-rest i (omega (arith, W .under, W .inside)))
+
+    pub writing-end : end ≤ i → b ≡ written list end b₀
+    writing-end l = let e : i ≡ end = omega (arith, W .under) in W .done ∙ ap (λ (z : ℕ). written list z b₀) e
+
+-- inside `write_numbers`, where b₁ is b₀ with its first bytes zeroed
+module _ (list b₀ b₁ : List ℕ) (zeroed : b₁ ≡ replicate (8 * length list) 0 ++ drop (8 * length list) b₀) where
+  zeroed-rest : drop (8 * length list) b₁ ≡ drop (8 * length list) b₀
+  zeroed-rest = rw zeroed (drop-at (replicate (8 * length list) 0) (drop (8 * length list) b₀) (8 * length list) (length-replicate (8 * length list) 0))
+
+  pub writing-start : 8 * length list ≤ length b₁ → Writing list b₁ b₁ (length list) 0
+  unfolding written upTo
+  writing-start room = record {
+    under = zero-le;
+    inside = le-refl (length list);
+    room = room;
+    size = refl;
+    done = zeroed ∙ rw (sub-zero (length list), all-zero (length list)) (ap (λ (z : List ℕ). replicate (8 * length list) 0 ++ z) (sym zeroed-rest));
+  }
+
+  pub writing-all : (b : List ℕ) → b ≡ written list (length list) b₁ → b ≡ allBytes list ++ drop (8 * length list) b₀
+  unfolding written
+  writing-all b e = e ∙ rw (up-all list) (ap (λ (z : List ℕ). allBytes list ++ z) zeroed-rest)
+
+-- inside `write_part`
+pub writing-begin : (list b : List ℕ) (at end : ℕ) → Writable list at end b → Writing list b b end at
+writing-begin list b at end W = record { under = W .order; inside = W .inside; room = W .room; size = refl; done = W .so-far }
+
+-- ---- bytes zeroed
+
+-- the first i of k bytes are 0, the rest as they were
+pub record Clearing (k : ℕ) (b₀ b : List ℕ) (i : ℕ) : Type 0 where
+  pub under : i ≤ k
+  pub size : length b ≡ length b₀
+  pub done : b ≡ replicate i 0 ++ drop i b₀
+
+pub clearing-start : (k : ℕ) (b : List ℕ) → Clearing k b b 0
+clearing-start k b = record { under = zero-le; size = refl; done = fill-none b 0 }
+
+pub clearing-turn : (k : ℕ) (b₀ b : List ℕ) (i : ℕ) → k ≤ length b₀ → i < k → Clearing k b₀ b i → Clearing k b₀ (set b i 0) (i + 1)
+clearing-turn k b₀ b i room l C = record {
+  under = omega arith;
+  size = length-set b i 0 ∙ C .size;
+  done = rw (C .done) (fill-more i 0 b₀ (omega arith));
+}
+
+pub clearing-end : (k : ℕ) (b₀ b : List ℕ) (i : ℕ) → k ≤ i → Clearing k b₀ b i → b ≡ replicate k 0 ++ drop k b₀
+clearing-end k b₀ b i l C = let e : i ≡ k = omega (arith, C .under) in C .done ∙ ap (λ (z : ℕ). replicate z 0 ++ drop z b₀) e

@@ -1,0 +1,81 @@
+// Lists of numbers as bytes, 8 a number, most significant first: how the C entry takes its lists and gives the flows back.
+//
+// `read_numbers` fills a list of numbers out of bytes, `write_numbers` writes one out; what is behind the written bytes stays as it was.
+use codec::number_at;
+use codec::put_number;
+ghost use mathlib.Core.Path.{_≡_};
+ghost use mathlib.Core.Bool.{true};
+ghost use mathlib.Core.List.{_++_};
+ghost use Prim.Native.Nat.{_+_, _*_, _≤_};
+ghost use lib.ListN.{length, drop, replicate};
+ghost use Rattle.lists.specs.Numbers.{numbers, allBytes};
+ghost use Rattle.lists.specs.Inside.{written, Writable, Zeros};
+
+// Fills a list with the first numbers of a list of bytes.
+pub fn read_numbers(bytes: &[u8], list: &mut [u64])
+    requires { ⌜ 8 * length (now list) ≤ length (now bytes) ⌝ }
+    ensures { λ _. ⌜ now (list .exit) ≡ numbers (length (now (list .entry))) (now (bytes .entry)) ⌝ }
+{
+    let mut i = 0;
+    while i < list.len() {
+        list[i] = number_at(bytes, 8 * i);
+        i += 1;
+    }
+}
+
+// Zeroes the first k bytes.
+fn clear(bytes: &mut [u8], k: usize)
+    requires { ⌜ k ≤ length (now bytes) ⌝ }
+    ensures { λ _. ⌜ now (bytes .exit) ≡ replicate k 0 ++ drop k (now (bytes .entry)) ⌝ }
+{
+    let mut i = 0;
+    while i < k {
+        bytes[i] = 0;
+        i += 1;
+    }
+}
+
+// Whether the 8 numbers from a place on are 0.
+fn blank_eight(list: &[u64], at: usize) -> bool
+    requires { ⌜ at + 8 ≤ length (now list) ⌝ }
+    ensures { λ r. ⌜ (r ≡ true → Zeros (now (list .entry)) at 8) ⌝ }
+{
+    let low = list[at] | list[at + 1] | list[at + 2] | list[at + 3];
+    let high = list[at + 4] | list[at + 5] | list[at + 6] | list[at + 7];
+    if low | high == 0 {
+        return true;
+    }
+    false
+}
+
+// Writes the numbers at the places from `at` to below `end` that are above 0, over bytes that are 0.
+fn write_part(list: &[u64], at: usize, end: usize, bytes: &mut [u8])
+    requires { ⌜ Writable (now list) at end (now bytes) ⌝ }
+    ensures { λ _. ⌜ now (bytes .exit) ≡ written (now (list .entry)) end (now (bytes .entry)) ⌝ }
+{
+    let mut i = at;
+    while i < end {
+        let x = list[i];
+        if x != 0 {
+            put_number(bytes, 8 * i, x);
+        }
+        i += 1;
+    }
+}
+
+// Writes the bytes of a list of numbers at the front of a list of bytes.
+pub fn write_numbers(list: &[u64], bytes: &mut [u8])
+    requires { ⌜ 8 * length (now list) ≤ length (now bytes) ⌝ }
+    ensures { λ _. ⌜ now (bytes .exit) ≡ allBytes (now (list .entry)) ++ drop (8 * length (now (list .entry))) (now (bytes .entry)) ⌝ }
+{
+    let n = list.len();
+    clear(bytes, 8 * n);
+    let mut i = 0;
+    while i + 8 <= n {
+        if !blank_eight(list, i) {
+            write_part(list, i, i + 8, bytes);
+        }
+        i += 8;
+    }
+    write_part(list, i, n, bytes);
+}
