@@ -12,10 +12,15 @@ trap 'rm -rf "$folder"' EXIT
 
 # lines LETTER MODE: the second program's answers to the lines of that letter, in the small digits of the proved program.
 lines() {
-    sed -n "s/^$1 //p" crates/cases/stdin | "$folder/second" "$2" | tr A-F a-f | sed "s/^/$1 /"
+    sed -n "s/^$1 //p" crates/cases/stdin | "$folder/second" "$2" | tr A-Z a-z | sed "s/^/$1 /"
 }
 
-lines G graph > "$folder/stdout"
+# crates/cases/stdin has the letters in this order.
+{
+    lines G graph
+    lines R flows
+    lines V calls
+} > "$folder/stdout"
 if [ "${1:-}" = --write ]; then
     cp "$folder/stdout" crates/cases/stdout
 elif ! diff "$folder/stdout" crates/cases/stdout; then
