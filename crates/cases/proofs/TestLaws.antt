@@ -2,10 +2,10 @@
 -- Assumes nothing.
 --
 --   Fitting rows costs u            the jobs below u are fit
---   fit-start, fit-turn, fit-end
+--   fit-start, fit-turn, fit-end    before the loop, a turn, and after it
 --   not-true                        false is not true
 --   call-accepted                   so the rounds can be made
-use mathlib.Core.Path.{_≡_, refl, sym, subst}
+use mathlib.Core.Path.{_≡_, sym, subst}
 use mathlib.Core.Logic.{_≢_}
 use mathlib.Core.Bool.{true, false}
 use mathlib.Core.List.{List}
@@ -24,9 +24,11 @@ use Rattle.flow.specs.Accepted.{costOf, Accepted}
 use Rattle.cases.specs.Tests.{Fit}
 
 pub record Fitting (rows costs : List ℕ) (u : ℕ) : Type 0 where
+  -- at most 64 jobs, a cost for each, and u of them looked at
   pub few : length rows ≤ 64
   pub many : length costs ≡ length rows
   pub done : u ≤ length rows
+  -- those do not wait for themselves, and their costs are above 0 and at most 2 ^ 42
   pub apart : (v : ℕ) → v < u → T (waits rows v v) → ⊥
   pub positive : (v : ℕ) → v < u → 0 < getD costs v 0
   pub limit : (v : ℕ) → v < u → getD costs v 0 ≤ 2 ^ 42

@@ -6,7 +6,6 @@
 //   R R C W T A r1 .. rR c1 .. cC       the rounds of a call that is accepted and has a ring (calls.rt, rounds.rt)
 //   V R C W T A r1 .. rR c1 .. cC       a verdict call (calls.rt, verdicts.rt)
 use libc::STDIN_FILENO;
-ghost use mathlib.Core.Path.{_≡_};
 ghost use Prim.Native.Nat.{_<_, _≤_};
 ghost use lib.ListN.{length};
 
