@@ -11,25 +11,13 @@ ghost use Rattle.verdict.specs.Answers.{number, Verdict};
 ghost use Rattle.frames.specs.Records.{answered};
 ghost use Rattle.reply.specs.Replied.{Replied};
 
-// The document's number of an outcome.
-fn outcome_number(outcome: verdict::Outcome) -> u8
-    ensures { λ r. ⌜ r ≡ number outcome ⌝ }
-{
-    match outcome {
-        verdict::Outcome::Wait => 0,
-        verdict::Outcome::AbortT => 1,
-        verdict::Outcome::AbortOthers => 2,
-        verdict::Outcome::NotYet => 3,
-    }
-}
-
 // The answer frame of a verdict.
 fn answer_frame(d: verdict::Decision) -> frames::Answer
     ensures { λ r. ⌜ r ≡ answered (number (d .outcome)) (d .price) (d .rounds) (d .victims) ⌝ }
 {
     let outcome = d.outcome;
     frames::Answer {
-        outcome: outcome_number(outcome),
+        outcome: verdict::outcome_number(outcome),
         price: d.price,
         rounds: d.rounds,
         victims: d.victims,
