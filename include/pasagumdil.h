@@ -3,6 +3,7 @@
  * A job of a render farm has timed out. pasagumdil_verdict() says whether it is
  * caught in a ring of jobs that wait for each other, and if so, which jobs are
  * the cheapest to abort so that every ring through it opens.
+ * pasagumdil_answer() does the same for a snapshot as text.
  *
  * Link the static library that `rt staticlib entry` writes, libentry.a. It is
  * for x86-64 Linux and needs nothing but memset() from the C library.
@@ -28,6 +29,7 @@ enum {
     PASAGUMDIL_MOST_JOBS = 64,    /* jobs in a call */
     PASAGUMDIL_NUMBER_BYTES = 8,  /* bytes of a number in a list */
     PASAGUMDIL_ANSWER_BYTES = 22, /* bytes of an answer */
+    PASAGUMDIL_LINE_BYTES = 45,   /* bytes of the longest line, its feed with it */
 
     /* Stack to keep free for a call, whatever it is given. It takes less: up to
      * 3,000 bytes for 8 jobs, 5,000 for 16, 11,500 for 32, 36,500 for 64. */
@@ -109,6 +111,19 @@ uint8_t pasagumdil_verdict(const uint8_t *rows, size_t rows_len,
                            uint64_t t, uint32_t allowance,
                            uint8_t *work, size_t work_len,
                            uint8_t *answer, size_t answer_len);
+
+/* The line that answers a snapshot text, as the program `answer` writes it.
+ *
+ *   text, text_len      read: any bytes at all.
+ *   line, line_len      written, never read: at least 45 bytes. The line, an
+ *                       answer or a refusal with its line feed, stands at the
+ *                       front; bytes behind it keep their values.
+ *
+ * Returns the length of the line, 9 for a refusal and 45 for an answer; or 0
+ * where line_len is below 45, and then nothing is written. It takes some 40,000
+ * bytes of stack. line must not overlap text. */
+size_t pasagumdil_answer(const uint8_t *text, size_t text_len,
+                         uint8_t *line, size_t line_len);
 
 #ifdef __cplusplus
 }

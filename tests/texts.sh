@@ -1,14 +1,16 @@
 #!/bin/sh
-# The program beside the second program, text by text: snapshots of all sizes, damaged ones, random bytes. Every text must get the same one line.
+# Texts beside the second program: snapshots of all sizes, damaged ones, random bytes. Every text must get the same one line,
+# from the program on standard input and from the text function for C.
 #
-#   sh tests/texts.sh [COUNT [SEED]]
+#   sh tests/texts.sh [PROGRAM_TEXTS [ENTRY_TEXTS [SEED]]]
 set -eu
 cd "$(dirname "$0")/.."
 count=${1:-1000}
-seed=${2:-1}
+seed=${3:-1}
 folder=$(mktemp -d)
 trap 'rm -rf "$folder"' EXIT
-"${CC:-cc}" -std=c11 -O2 -o "$folder/second" tests/second/*.c
+second=tests/second
+"${CC:-cc}" -std=c11 -O2 -o "$folder/second" $second/*.c
 mkdir "$folder/texts"
 "$folder/second" gen-texts "$seed" "$count" "$folder/texts"
 
@@ -26,6 +28,10 @@ for text in "$folder"/texts/* examples/*.txt; do
         exit 1
     fi
     done=$((done + 1))
-    [ $((done % 10000)) -ne 0 ] || echo "texts: $done"
+    [ $((done % 10000)) -ne 0 ] || echo "texts: $done through the program"
 done
-echo "texts: $done, all alike"
+echo "texts: $done through the program, all alike"
+
+sh tests/link.sh "$folder/entry" tests/texts.c $second/second.c $second/rounds.c $second/victims.c $second/reader.c $second/dice.c \
+    $second/generate_fields.c $second/generate_texts.c
+"$folder/entry" "${2:-20000}" "$seed"
