@@ -11,7 +11,9 @@ program=$1
 shift
 top=$(cd "$(dirname "$0")/.." && pwd)
 library=$top/target/staticlib/libentry.a
-(cd "$top" && rt staticlib entry) >&2
+if [ ! -f "$library" ] || [ -n "$(find "$top/crates" "$top/crates.txt" -newer "$library" -type f | head -n 1)" ]; then
+    (cd "$top" && rt staticlib entry) >&2
+fi
 flags="-std=c11 -O2 -Wall -Wextra -Werror -I$top/include -I$top/tests/second"
 
 if [ "$(uname -m)" = x86_64 ] && [ "${KIT_LINK:-0}" = 0 ]; then
