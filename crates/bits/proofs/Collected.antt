@@ -2,9 +2,14 @@
 -- Assumes nothing.
 --
 --   part-none, part-skip, part-take, part-all   the start, a number that is left, a number that is taken, the end
+--   mask-exists                                 every test of the numbers below 64 has its mask
 use mathlib.Core.Path.{_≡_, refl, sym, subst}
 use mathlib.Core.Logic.{⊎-elim}
-use Prim.Native.Nat.{ℕ, _+_, _^_, _<_}
+use mathlib.Core.Bool.{Bool, true, false}
+use Prim.Native.Nat.{ℕ, zero, suc, _+_, _^_, _<_, _≤_}
+use native.Mathlib.Nat.{le-refl}
+use native.Mathlib.Numerals.{suc-eq-add-one}
+use lib.Dec.{T}
 use native.Mathlib.Omega.{arith}
 use borrow.Author.Count.{below-more}
 use lib.Bits.{bitOr, or-lt}
@@ -34,3 +39,23 @@ module _ (P : ℕ → Type 0) where
 
   pub part-all : (k m : ℕ) → Part P k m → ((v : ℕ) → P v → v < k) → MaskOf P m
   part-all k m p below = record { small = p .small; sound = p .sound; complete = λ v q. p .complete v (below v q) q }
+
+-- every test of the numbers below n, 64 at most, has its mask
+pub mask-exists : (n : ℕ) (M : ℕ → Bool) → n ≤ 64 → (x : ℕ) × MaskOf (λ (u : ℕ). (u < n) × T (M u)) x
+mask-exists n M few = let k = upto n (le-refl n) in (k .0, part-all (λ (u : ℕ). (u < n) × T (M u)) n (k .0) (k .1) (λ u h. h .0))
+  where
+    upto : (k : ℕ) → k ≤ n → (x : ℕ) × Part (λ (u : ℕ). (u < n) × T (M u)) k x
+    upto zero l = (0, part-none (λ (u : ℕ). (u < n) × T (M u)))
+    upto (suc k) l = go (M k) refl (upto k (omega arith))
+      where
+        go : (b : Bool) → M k ≡ b → (x : ℕ) × Part (λ (u : ℕ). (u < n) × T (M u)) k x → (x : ℕ) × Part (λ (u : ℕ). (u < n) × T (M u)) (suc k) x
+        go true e r = (
+          bitOr (r .0) (2 ^ k),
+          subst (λ (z : ℕ). Part (λ (u : ℕ). (u < n) × T (M u)) z (bitOr (r .0) (2 ^ k))) (sym (suc-eq-add-one k))
+              (part-take (λ (u : ℕ). (u < n) × T (M u)) k (r .0) (r .1) (omega arith) (l, subst T (sym e) tt)),
+        )
+        go false e r = (
+          r .0,
+          subst (λ (z : ℕ). Part (λ (u : ℕ). (u < n) × T (M u)) z (r .0)) (sym (suc-eq-add-one k))
+              (part-skip (λ (u : ℕ). (u < n) × T (M u)) k (r .0) (r .1) (λ h. subst T e (h .1))),
+        )

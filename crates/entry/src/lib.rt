@@ -1,28 +1,15 @@
-// The C entry: the verdict call on lists of bytes.
+// The C entry: the verdict call on lists of bytes, and the text function.
 //
 // `pasagumdil_verdict` returns the number of the refusal that is due, and writes nothing then; otherwise it returns 0, with the answer frame at the front of
-// the answer bytes and the flows at the front of the work bytes. It has no `requires`: every call is answered.
+// the answer bytes and the flows at the front of the work bytes. `pasagumdil_answer` is `reply` for C. Neither has a `requires`: every call is answered.
 use frames::Answer;
 use verdict::Decision;
-use verdict::Outcome;
 ghost use mathlib.Core.Path.{_≡_};
 ghost use Prim.Native.Nat.{_*_, _≤_};
 ghost use lib.ListN.{length};
-ghost use Rattle.verdict.specs.Answers.{number};
+ghost use Rattle.reply.specs.Replied.{Replied};
 ghost use Rattle.entry.specs.Entered.{Entered};
 ghost use Rattle.entry.specs.Inside.{Given, Lent, Sized};
-
-// The document's number of an outcome.
-fn outcome_number(outcome: Outcome) -> u8
-    ensures { λ r. ⌜ r ≡ number outcome ⌝ }
-{
-    match outcome {
-        Outcome::Wait => 0,
-        Outcome::AbortT => 1,
-        Outcome::AbortOthers => 2,
-        Outcome::NotYet => 3,
-    }
-}
 
 // Writes a decision and its flows.
 fn give(d: Decision, flows: &[u64], work: &mut [u8], answer: &mut [u8])
@@ -32,7 +19,12 @@ fn give(d: Decision, flows: &[u64], work: &mut [u8], answer: &mut [u8])
     lists::write_numbers(flows, work);
     let outcome = d.outcome;
     codec::put_answer(
-        Answer::new(outcome_number(outcome), d.price, d.rounds, d.victims),
+        Answer::new(
+            verdict::outcome_number(outcome),
+            d.price,
+            d.rounds,
+            d.victims,
+        ),
         answer,
     );
 }
@@ -223,4 +215,12 @@ pub extern "C" fn pasagumdil_verdict(
         return call_32(rows, costs, n, job, allowance, work, answer);
     }
     call_64(rows, costs, n, job, allowance, work, answer)
+}
+
+// For C: the line that answers a text. Returns its length, or 0 where the lent list has fewer than 45 places.
+#[no_mangle]
+pub extern "C" fn pasagumdil_answer(text: &[u8], line: &mut [u8]) -> usize
+    ensures { λ r. ⌜ Replied (now (text .entry)) (now (line .entry)) r (now (line .exit)) ⌝ }
+{
+    reply::reply(text, line)
 }

@@ -13,11 +13,10 @@ use Prim.Native.Nat.{ℕ, suc, _+_, _*_, _/_, _%_, _^_, _<_, _≤_}
 use native.Mathlib.Decide.{ℕ-discrete}
 use native.Mathlib.Omega.{arith}
 use lib.Arith.{digits-lt}
-use lib.Bits.{bitAnd}
 use lib.Dec.{T, eqb, ltb, lt→ltb, ltb→lt}
 use lib.ListN.{length}
 use Rattle.bits.specs.Mask.{bit, Has, has}
-use Rattle.bits.proofs.Digits.{bit-zero, bit-pow-same}
+use Rattle.bits.proofs.Digits.{bit-pow-same}
 use Rattle.bits.proofs.Masks.{has-test, test-has, has-and, and-has, has-pow-cases}
 use Rattle.bits.proofs.Rest.{rest-end}
 use Rattle.sums.specs.Tests.{both}
@@ -164,9 +163,6 @@ module _ (rows costs : List ℕ) (τ x : ℕ) (F : List ℕ) (A : Accepted rows 
         let e : inn u / 2 ≡ u = omega arith in
         let k : Has x (inn u / 2) = subst (Has x) (sym e) h in
         subst (λ (z : ℕ). Has z u) (sym (B .masks (inn u) (omega arith) ∙ start-own rows τ x (inn u) k (λ o. omega arith) (λ q. ne (sym e ∙ q)) ∙ ap (λ (z : ℕ). 2 ^ z) e)) (bit-pow-same u)
-
-    c : Room
-    c = netOf rows costs τ x
 
     -- a step by the masks has capacity
     to : (a b : ℕ) → a < 128 → T (step (masked S) a b) → T (step (netOf rows costs τ x) a b)

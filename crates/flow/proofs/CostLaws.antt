@@ -5,7 +5,7 @@
 --   total-start, total-job, total-fits, total-turn, total-end
 --   Inflowing work n u v sum      sum is what flows into u from the jobs below v
 --   inflow-start, inflow-place, inflow-fits, inflow-turn, inflow-end
-use mathlib.Core.Path.{_≡_, refl, sym, ap, _∙_, subst}
+use mathlib.Core.Path.{_≡_, refl, ap, _∙_, subst}
 use mathlib.Core.Logic.{_⊎_, inl, inr, _≢_}
 use mathlib.Core.List.{List}
 use Prim.Native.Nat.{ℕ, zero, suc, _+_, _-_, _*_, _^_, _<_, _≤_, zero-le}
@@ -16,7 +16,6 @@ use native.Mathlib.Omega.{arith}
 use lib.Arith.{digits-lt}
 use lib.Bits.{bitAnd}
 use lib.Count.{trailingZeros}
-use lib.Dec.{T}
 use lib.ListN.{length, getD}
 use Rattle.bits.specs.Mask.{Has, has}
 use Rattle.bits.proofs.Masks.{has-test, test-has}
@@ -57,9 +56,6 @@ module _ (costs : List ℕ) (x rest acc : ℕ) (A : Totalling costs x rest acc) 
           (trailingZeros 64 rest) 0 (costOf costs (trailingZeros 64 rest)) total-job (λ u l ne. ap (λ (b : _). gate b (costOf costs u)) (same u ne)) here,
     )
       where
-        u₀ : ℕ
-        u₀ = trailingZeros 64 rest
-
         same : (u : ℕ) → u ≢ trailingZeros 64 rest → has rest u ≡ has (bitAnd rest (rest - 1)) u
         same u ne = T-eq (has rest u) (has (bitAnd rest (rest - 1)) u)
             (λ t. has-test (bitAnd rest (rest - 1)) u (stays (rest-cases x rest (A .rest-part) some u (test-has rest u t))))

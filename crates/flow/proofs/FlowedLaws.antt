@@ -8,7 +8,7 @@
 --   inflow-unique     two results of `inflow` are equal
 use mathlib.Core.Path.{_≡_, refl, sym, ap, _∙_, subst}
 use mathlib.Core.Logic.{_≢_}
-use mathlib.Core.Bool.{Bool, true, false}
+use mathlib.Core.Bool.{Bool}
 use mathlib.Core.List.{List}
 use Prim.Native.Nat.{ℕ, suc, _+_, _*_, _/_, _%_, _^_, _<_, _≤_}
 use native.Mathlib.Nat.{div-add-mod', div-lt-iff-lt-mul, mod-lt}
@@ -30,7 +30,7 @@ use Rattle.network.specs.Rounds.{Rounds, Stuck}
 use Rattle.network.specs.Arcs.{inn, out, within, total, jobCapacity, net, capacity, waitCount}
 use Rattle.network.proofs.SameRooms.{Same, same-sym, reaches-same}
 use Rattle.network.proofs.RoundLaws.{rounds-unique, stuck-last, count-unique}
-use Rattle.network.proofs.ArcLaws.{job-member, job-total}
+use Rattle.network.proofs.ArcLaws.{job-member}
 use Rattle.network.proofs.FlowLaws.{flowOn, Flowing, rounds-flowing, job-room, into-job, from-job}
 use Rattle.network.proofs.Tally.{capacity-counted}
 use Rattle.flow.specs.Accepted.{costOf, Accepted}
@@ -88,12 +88,6 @@ flowed-unique rows costs τ x a before after after′ k k′ left left′ ins ou
   work = ext-getD 0 after after′ (A .size ∙ sym (B .size)) (λ i h. go i (decLt i (length rows * length rows)));
 }
   where
-    n : ℕ
-    n = length rows
-
-    c : Room
-    c = capacity (waits rows) (has x) (length rows) τ (costOf costs)
-
     all : (k ≡ k′) × (left ≡ left′) × (ins ≡ ins′) × (outs ≡ outs′)
     all = ends (length rows) τ a (capacity (waits rows) (has x) (length rows) τ (costOf costs)) (K .job) k k′ (A .room) (B .room) left left′ ins outs ins′ outs′
         (A .made) (B .made) (A .limit) (B .limit) (A .ends) (B .ends)
@@ -135,9 +129,6 @@ module _ (rows costs : List ℕ) (τ x a : ℕ) (before after : List ℕ) (k : �
 
   abbrev wide : ℕ
   wide = suc (total n (has x) (costOf costs))
-
-  r : Room
-  r = A .room
 
   flowing : (v : ℕ) × Flowing n τ (net arc job wide) (A .room) v
   unfolding capacity

@@ -9,11 +9,11 @@
 --   held-read, held-readable     what is read of it is its room, and it can be read
 --   held-step                    after one step's push the lists hold the flow of the rooms after it
 --   held-same                    so it is with rooms that agree
-use mathlib.Core.Path.{_≡_, refl, sym, ap, _∙_, subst}
+use mathlib.Core.Path.{_≡_, sym, ap, _∙_, subst}
 use mathlib.Core.Logic.{_⊎_, inl, inr, _≢_}
 use mathlib.Core.Bool.{Bool}
 use mathlib.Core.List.{List}
-use Prim.Native.Nat.{ℕ, suc, _+_, _-_, _*_, _/_, _%_, _^_, _<_, _≤_}
+use Prim.Native.Nat.{ℕ, _+_, _-_, _*_, _/_, _%_, _^_, _<_, _≤_}
 use native.Mathlib.Decide.{ℕ-discrete}
 use native.Mathlib.Omega.{arith}
 use lib.Arith.{digits-lt, digits-div, digits-mod}
@@ -168,9 +168,6 @@ module _ (arc : ℕ → ℕ → Bool) (job : ℕ → ℕ) (wide : ℕ) (costs : 
       module _ (d : ℕ) (allowed : d ≤ r a b) where
         ne : a ≢ b
         ne e = omega (arith, held-sides some)
-
-        r′ : Room
-        r′ = push1 r d a b
 
         pair′ : (x y : ℕ) → push1 r d a b x y + push1 r d a b y x ≡ r x y + r y x
         pair′ x y = go (spot a b x y)

@@ -5,19 +5,17 @@
 --   narrow-taken, narrow-stuck  so the path that a search finds is the round's, and where it finds none no path is left
 --   narrow-side                 the masks of the sink's side are those of the rooms
 use mathlib.Core.Path.{_≡_, sym, subst}
-use mathlib.Core.Logic.{_⊎_, inl, inr, _≢_}
 use mathlib.Core.List.{List, [], _∷_}
-use Prim.Native.Nat.{ℕ, suc, _+_, _*_, _/_, _<_, _≤_}
+use Prim.Native.Nat.{ℕ, _*_, _/_, _<_, _≤_}
 use native.Mathlib.Omega.{arith}
 use lib.Dec.{T}
-use lib.ListN.{length}
 use Rattle.bits.specs.Mask.{Has, MaskOf}
 use Rattle.bits.proofs.Masks.{mask-same}
-use Rattle.walks.specs.Walk.{Walk, Reaches}
+use Rattle.walks.specs.Walk.{Walk}
 use Rattle.network.specs.Rooms.{Room, step}
 use Rattle.network.specs.Paths.{Taken}
 use Rattle.network.specs.Rounds.{Stuck}
-use Rattle.network.specs.Arcs.{inn, out}
+use Rattle.network.specs.Arcs.{inn}
 use Rattle.search.specs.Masks.{masked}
 use Rattle.side.specs.Home.{Home}
 use Rattle.flow.specs.Flowed.{Side}

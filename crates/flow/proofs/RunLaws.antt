@@ -13,7 +13,7 @@ use mathlib.Core.Path.{_≡_, refl, sym, ap, _∙_, subst}
 use mathlib.Core.Logic.{_≢_}
 use mathlib.Core.Bool.{Bool, true, false}
 use mathlib.Core.List.{List}
-use Prim.Native.Nat.{ℕ, zero, suc, _+_, _*_, _/_, _^_, _<_, _≤_, zero-le}
+use Prim.Native.Nat.{ℕ, zero, suc, _+_, _*_, _<_, _≤_, zero-le}
 use native.Mathlib.Numerals.{suc-eq-add-one}
 use native.Mathlib.Omega.{arith}
 use lib.ListN.{length, getD, replicate, length-replicate}
@@ -42,12 +42,15 @@ use Rattle.flow.proofs.BeginLaws.{arcOf, jobOf, wideOf, netOf, accepted
 
 pub record Running (rows costs : List ℕ) (τ x allowance wide : ℕ) (before F G S qs ps : List ℕ) (k e : ℕ) : Type 0 where
   pub accepted : Accepted rows costs τ x before
+  -- the code's number is S + 1
   pub width : wideOf costs x ≡ wide
+  -- the rooms after the rounds so far
   pub room : Room
   pub held : Held (arcOf rows x) (jobOf costs τ x) (wideOf costs x) (length costs) room F G
   pub shown : Shown room (length costs) x S
   pub made : Rounds (2 * length costs) (out τ) (inn τ) (netOf rows costs τ x) k room
   pub limit : k ≤ allowance
+  -- the work list keeps its length and what is no flow
   pub size : length F ≡ length before
   pub rest : (i : ℕ) → length costs * length costs ≤ i → at F i ≡ at before i
   -- the search from whatever the two lists held

@@ -27,8 +27,7 @@ use Rattle.network.proofs.PushLaws.{room-at, Spot, ahead, back, aside, spot, pu
 use Rattle.network.proofs.SameRooms.{Same}
 use Rattle.search.specs.Masks.{at, masked}
 use Rattle.search.proofs.MaskSteps.{step-parts, step-made}
-use Rattle.push.specs.Reading.{reads}
-use Rattle.push.specs.Advance.{withStep, withoutStep, Advanced}
+use Rattle.push.specs.Advance.{withStep, withoutStep}
 
 pub record Shown (r : Room) (n x : ℕ) (S : List ℕ) : Type 0 where
   pub size : length S ≡ 128

@@ -9,23 +9,22 @@ use mathlib.Core.Path.{_≡_, refl, sym, ap, _∙_, subst}
 use mathlib.Core.Logic.{_⊎_, inl, inr, _≢_}
 use mathlib.Core.Bool.{Bool, not}
 use mathlib.Core.List.{List}
-use Prim.Native.Nat.{ℕ, suc, _+_, _-_, _*_, _/_, _%_, _^_, _<_, _≤_, zero-le}
+use Prim.Native.Nat.{ℕ, _+_, _-_, _*_, _/_, _%_, _^_, _<_, _≤_, zero-le}
 use native.Mathlib.Nat.{mul-le-mul}
 use native.Mathlib.Decide.{ℕ-discrete}
 use native.Mathlib.Omega.{arith}
 use lib.Bits.{bitAnd}
 use lib.Count.{trailingZeros}
-use lib.Dec.{T, eqb}
+use lib.Dec.{eqb}
 use lib.ListN.{length, set, length-set}
 use lib.Seq.{getD-set-same, getD-set-other}
-use Rattle.bits.specs.Mask.{bit, Has, has}
+use Rattle.bits.specs.Mask.{Has, has}
 use Rattle.bits.proofs.Masks.{has-test, test-has}
 use Rattle.bits.proofs.Rest.{Rest, rest-start, rest-end, rest-low, rest-here, rest-below, rest-less, rest-next, rest-gone, rest-cases}
 use Rattle.sums.specs.Sum.{gate}
 use Rattle.sums.proofs.TestLaws.{ne-test, test-ne, eqb-on, eqb-off}
 use Rattle.sums.proofs.SumLaws.{gate-on, gate-off}
 use Rattle.network.specs.Rooms.{pick}
-use Rattle.network.specs.Arcs.{inn, out}
 use Rattle.search.specs.Masks.{at}
 use Rattle.flow.specs.Inside.{Cleared, startMask, Beginnable, Begun}
 
@@ -87,6 +86,7 @@ pub record Beginning (rows : List ℕ) (τ x rest : ℕ) (steps : List ℕ) : Ty
   pub rest-part : Rest x rest
   pub size : length steps ≡ 128
   pub done : (a : ℕ) → a < 128 → (Has rest (a / 2) → ⊥) → at steps a ≡ startMask rows τ x a
+  -- the jobs of rest have no step yet
   pub undone : (a : ℕ) → Has rest (a / 2) → at steps a ≡ 0
 
 pub begin-start : (rows : List ℕ) (τ x : ℕ) (steps : List ℕ) → Beginnable rows x steps → x < 2 ^ 64 → Beginning rows τ x x steps
@@ -126,9 +126,6 @@ module _ (rows : List ℕ) (τ x rest : ℕ) (steps : List ℕ) (B : Beginning r
       undone = λ a h. let k = rest-gone x rest (B .rest-part) some (a / 2) h in other a (k .1) ∙ B .undone a (k .0);
     }
       where
-        u : ℕ
-        u = trailingZeros 64 rest
-
         M : ℕ
         M = bitAnd (at rows (trailingZeros 64 rest)) x
 

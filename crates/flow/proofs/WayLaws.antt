@@ -8,12 +8,12 @@
 --   way-pushable              what `push` asks for
 --   Kept, way-pushed          what it leaves holds and shows the rooms after the push
 use mathlib.Core.Path.{_≡_, refl, sym, ap, _∙_, subst}
-use mathlib.Core.Logic.{_⊎_, inl, inr, _≢_}
+use mathlib.Core.Logic.{inl}
 use mathlib.Core.Bool.{Bool}
 use mathlib.Core.List.{List, [], _∷_, _++_}
-use Prim.Native.Nat.{ℕ, suc, _+_, _-_, _*_, _/_, _%_, _^_, _<_, _≤_}
+use Prim.Native.Nat.{ℕ, _+_, _-_, _*_, _/_, _<_, _≤_}
 use native.Mathlib.Omega.{arith}
-use lib.Dec.{T, ltb→lt}
+use lib.Dec.{ltb→lt}
 use lib.ListN.{length}
 use lib.Seq.{getD-set-other}
 use Rattle.walks.specs.Walk.{Walk}
@@ -22,11 +22,11 @@ use Rattle.network.specs.Rooms.{Room, step, push1, push}
 use Rattle.network.specs.Paths.{Taken, Allows, Most}
 use Rattle.network.proofs.PathLaws.{Down, taken-length, walk-down}
 use Rattle.network.proofs.PushLaws.{lastOf, push-away, push-last}
-use Rattle.network.proofs.SameRooms.{Same, same-sym}
+use Rattle.network.proofs.SameRooms.{Same}
 use Rattle.search.specs.Masks.{at}
 use Rattle.search.specs.Sought.{Leads}
 use Rattle.search.specs.Sought.Leads.{source, onward}
-use Rattle.push.specs.Reading.{reads, Readable}
+use Rattle.push.specs.Reading.{reads}
 use Rattle.push.specs.Advance.{Shifted, Advanceable, Advanced}
 use Rattle.push.specs.Advance.Shifted.{drops, rises, along, against}
 use Rattle.push.proofs.ReadLaws.{place-along, place-against}
@@ -153,9 +153,6 @@ module _ (arc : ℕ → ℕ → Bool) (job : ℕ → ℕ) (wide : ℕ) (costs : 
   -- ---- the round's way
 
   module _ (s t : ℕ) (ls : s < 2 * length costs) (qs ps : List ℕ) (e : ℕ) (start : at qs 0 ≡ s) (p : List ℕ) (way : Way qs ps e p) (taken : Taken r (2 * length costs) s t p) where
-    D : ℕ → ℕ
-    D = dist (step r) N t
-
     -- what is left of the path at place i
     behind : (d i : ℕ) (q : List ℕ) → Allows r d s p → On qs ps p i q → Along r (2 * length costs) t (dist (step r) (2 * length costs) t) d (at qs (at ps i)) (at qs i ∷ q)
     behind d i q al O =

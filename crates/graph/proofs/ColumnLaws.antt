@@ -2,7 +2,7 @@
 -- Assumes nothing.
 --
 --   Adding row j before columns rest    job j stands in the columns of those of its row that are no more in rest
---   adding-start, adding-next, adding-turn, adding-end
+--   adding-start, adding-turn, adding-end
 --   Turning rows j columns              the columns of the jobs below j
 --   turning-start, turning-masks, turning-turn, turning-end
 use mathlib.Core.Path.{_≡_, refl, sym, ap, _∙_, subst}
@@ -11,16 +11,16 @@ use mathlib.Core.List.{List}
 use Prim.Native.Nat.{ℕ, _+_, _-_, _^_, _<_, _≤_}
 use native.Mathlib.Omega.{arith}
 use native.Mathlib.Decide.{ℕ-discrete, decLt}
-use lib.Bits.{bitOr, bitAnd, bitXor, or-lt, xor-lt}
+use lib.Bits.{bitOr, bitAnd, or-lt}
 use lib.Pow.{pow-lt, pow-pos}
 use lib.Count.{trailingZeros}
 use lib.Dec.{T}
 use lib.ListN.{length, getD, set, length-set, replicate, length-replicate, getD-replicate}
 use lib.Seq.{getD-set-same, getD-set-other}
 use Rattle.bits.specs.Mask.{bit, Has, MaskOf}
-use Rattle.bits.proofs.Digits.{bit-zero, bit-lt, bit-pow-same}
-use Rattle.bits.proofs.Masks.{has-or-l, has-or-r, has-or-cases, has-pow-cases, has-xor, xor-has, xor-lacks}
-use Rattle.bits.proofs.Lowest.{trailing-has, and-pred}
+use Rattle.bits.proofs.Digits.{bit-zero, bit-pow-same}
+use Rattle.bits.proofs.Masks.{has-or-l, has-or-r, has-or-cases, has-pow-cases}
+use Rattle.bits.proofs.Rest.{Rest, rest-start, rest-below, rest-here, rest-gone, rest-cases, rest-next, rest-end}
 use Rattle.graph.specs.Waits.{waits}
 use Rattle.graph.specs.Turned.{Masks, Added, Turned}
 use Rattle.graph.proofs.WaitLaws.{waits-has, has-waits, waits-below}
@@ -33,54 +33,41 @@ Column row j before rest i k = Has before k ⊎ ((k ≡ j) × Has row i × (Has 
 
 pub record Adding (row j : ℕ) (before columns : List ℕ) (rest : ℕ) : Type 0 where
   pub job : j < 64
-  pub small : rest < 2 ^ 64
   -- what is in rest is of the row
-  pub sub : (i : ℕ) → Has rest i → Has row i
+  pub part : Rest row rest
   pub size : length columns ≡ 64
   pub column : (i : ℕ) → i < 64 → MaskOf (Column row j (getD before i 0) rest i) (getD columns i 0)
 
 pub adding-start : (row j : ℕ) (before : List ℕ) → j < 64 → row < 2 ^ 64 → Masks before → Adding row j before before row
 adding-start row j before l small B = record {
   job = l;
-  small = small;
-  sub = λ i h. h;
+  part = rest-start row small;
   size = B .size;
   column = λ i li. record { small = B .small i li; sound = λ k h. inl h; complete = λ k h. ⊎-elim (λ p. p) (λ p. absurd (p .2 (p .1))) h };
 }
 
 module _ (row j : ℕ) (before columns : List ℕ) (rest : ℕ) (A : Adding row j before columns rest) where
-  -- the lowest job of rest
-  pub adding-next : (rest ≡ 0 → ⊥) → Has rest (trailingZeros 64 rest) × (trailingZeros 64 rest < 64)
-  adding-next ne = trailing-has 64 rest (A .small) ne
-
   pub adding-turn : (rest ≡ 0 → ⊥) → (i b : ℕ) → i ≡ trailingZeros 64 rest → b ≡ 2 ^ j
       → Adding row j before (set columns i (bitOr (getD columns i 0) b)) (bitAnd rest (rest - 1))
   adding-turn ne i b ei eb = record {
     job = A .job;
-    small = subst (λ (z : ℕ). z < 2 ^ 64) (sym less) (xor-lt 64 rest (2 ^ i) (A .small) (pow-lt below));
-    sub = λ k h. A .sub k (gone k h .0);
+    part = rest-next row rest (A .part) ne;
     size = length-set columns i (bitOr (getD columns i 0) b) ∙ A .size;
     column = λ k lk. go k lk (ℕ-discrete k i);
   }
     where
       below : i < 64
-      below = subst (λ (z : ℕ). z < 64) (sym ei) (adding-next ne .1)
+      below = subst (λ (z : ℕ). z < 64) (sym ei) (rest-below row rest (A .part) ne)
 
       here : Has rest i
-      here = subst (Has rest) (sym ei) (adding-next ne .0)
-
-      less : bitAnd rest (rest - 1) ≡ bitXor rest (2 ^ i)
-      less = and-pred 64 rest (A .small) ne ∙ ap (λ (z : ℕ). bitXor rest (2 ^ z)) (sym ei)
+      here = subst (Has rest) (sym ei) (rest-here row rest (A .part) ne)
 
       -- what is left of rest, without i
       gone : (k : ℕ) → Has (bitAnd rest (rest - 1)) k → Has rest k × (k ≢ i)
-      gone k h =
-          let x = subst (λ (z : ℕ). Has z k) less h in
-          let y = has-xor rest (2 ^ i) k (λ p. subst (Has rest) (sym (has-pow-cases i k p)) here) x in
-          (y .0, λ e. y .1 (subst (λ (z : ℕ). Has (2 ^ i) z) (sym e) (bit-pow-same i)))
+      gone k h = let g = rest-gone row rest (A .part) ne k h in (g .0, λ e. g .1 (e ∙ ei))
 
       stays : (k : ℕ) → Has rest k → k ≢ i → Has (bitAnd rest (rest - 1)) k
-      stays k h ne′ = subst (λ (z : ℕ). Has z k) (sym less) (xor-has rest (2 ^ i) k h (λ p. ne′ (has-pow-cases i k p)))
+      stays k h ne′ = ⊎-elim (λ e. absurd (ne′ (e ∙ sym ei))) (λ r. r) (rest-cases row rest (A .part) ne k h)
 
       go : (k : ℕ) → k < 64 → Dec (k ≡ i)
           → MaskOf (Column row j (getD before k 0) (bitAnd rest (rest - 1)) k) (getD (set columns i (bitOr (getD columns i 0) b)) k 0)
@@ -91,7 +78,7 @@ module _ (row j : ℕ) (before columns : List ℕ) (rest : ℕ) (A : Adding row 
             small = or-lt 64 (getD columns k 0) b (A .column k lk .small) (subst (λ (z : ℕ). z < 2 ^ 64) (sym eb) (pow-lt (A .job)));
             sound = λ z h. ⊎-elim
                 (λ p. ⊎-elim (λ q. inl q) (λ q. absurd (q .2 (subst (Has rest) (sym e) here))) (A .column k lk .sound z p))
-                (λ p. inr (has-pow-cases j z (subst (λ (y : ℕ). Has y z) eb p), A .sub k (subst (Has rest) (sym e) here), λ h′. gone k h′ .1 e))
+                (λ p. inr (has-pow-cases j z (subst (λ (y : ℕ). Has y z) eb p), A .part .part k (subst (Has rest) (sym e) here), λ h′. gone k h′ .1 e))
                 (has-or-cases (getD columns k 0) b z h);
             complete = λ z h. ⊎-elim
                 (λ p. has-or-l (getD columns k 0) b z (A .column k lk .complete z (inl p)))
@@ -112,12 +99,9 @@ module _ (row j : ℕ) (before columns : List ℕ) (rest : ℕ) (A : Adding row 
     column = λ i li. record {
       small = A .column i li .small;
       sound = λ k h. ⊎-elim (λ q. inl q) (λ q. inr (q .0, q .1)) (A .column i li .sound k h);
-      complete = λ k h. A .column i li .complete k (⊎-elim (λ q. inl q) (λ q. inr (q .0, q .1, none i)) h);
+      complete = λ k h. A .column i li .complete k (⊎-elim (λ q. inl q) (λ q. inr (q .0, q .1, rest-end rest i e)) h);
     };
   }
-    where
-      none : (i : ℕ) → Has rest i → ⊥
-      none i h = omega (arith, bit-zero i, subst (λ (z : ℕ). Has z i) e h)
 
 -- ---- all rows
 

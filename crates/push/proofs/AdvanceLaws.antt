@@ -5,15 +5,15 @@
 --   advanced                              what they leave together
 --   shifted-size                          the work list keeps its length
 --   advanced-unique                       two results of one step are equal
-use mathlib.Core.Path.{_≡_, refl, sym, ap, _∙_}
+use mathlib.Core.Path.{_≡_, sym, ap, _∙_}
 use mathlib.Core.Logic.{_⊎_, inl, inr, _≢_}
 use mathlib.Core.List.{List}
-use Prim.Native.Nat.{ℕ, _+_, _-_, _*_, _/_, _%_, _^_, _<_, _≤_}
+use Prim.Native.Nat.{ℕ, _+_, _-_, _*_, _/_}
 use native.Mathlib.Decide.{ℕ-discrete}
 use native.Mathlib.Omega.{arith}
-use lib.ListN.{length, set, length-set}
+use lib.ListN.{length, length-set}
 use Rattle.search.specs.Masks.{at}
-use Rattle.push.specs.Reading.{reads, Readable}
+use Rattle.push.specs.Reading.{reads}
 use Rattle.push.specs.Advance.{Shiftable, Shifted, Markable, withStep, withoutStep, Advanceable, Advanced}
 use Rattle.push.specs.Advance.Shifted.{drops, rises, along, against}
 use Rattle.push.proofs.ReadLaws.{read-drops, read-rises, read-along, read-against}

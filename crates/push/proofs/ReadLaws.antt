@@ -3,7 +3,7 @@
 --
 --   read-drops, read-rises, read-along, read-against   the four kinds of step: back and forward along a job's arc, forward and back along a wait
 --   place-along, place-against, grid                   the places of the work list
-use mathlib.Core.Path.{_≡_, sym, _∙_, subst}
+use mathlib.Core.Path.{_≡_, _∙_, subst}
 use mathlib.Core.Logic.{_≢_}
 use mathlib.Core.List.{List}
 use Prim.Native.Nat.{ℕ, _+_, _-_, _*_, _/_, _%_, _<_, _≤_}

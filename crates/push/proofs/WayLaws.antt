@@ -28,6 +28,7 @@ use Rattle.push.proofs.AdvanceLaws.{shifted-size, advanced-unique}
 
 pub record Climb (qs ps : List ℕ) (e : ℕ) (p : List ℕ) (i : ℕ) (q : List ℕ) : Type 0 where
   pub way : Way qs ps e p
+  -- what is still to come, from place 0 to place i
   pub front : List ℕ
   pub leads : Leads qs ps i front
   pub whole : p ≡ front ++ q

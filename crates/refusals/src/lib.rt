@@ -42,9 +42,9 @@ fn jobs_refusal(h: Header, text: &[u8]) -> Refusal
         }
         j += 1;
     }
-    let f = cursor::further_at(text, job_place(h, n));
-    if f != 0 {
-        return Refusal::new(f, job_line(h, n));
+    let further = cursor::further_at(text, job_place(h, n));
+    if further != 0 {
+        return Refusal::new(further, job_line(h, n));
     }
     let t = h.t;
     if faults::waits_in(text, job_place(h, t), h.s) == 0 {

@@ -7,20 +7,18 @@
 use mathlib.Core.Path.{_≡_, refl, sym, ap, _∙_, subst}
 use mathlib.Core.Logic.{_⊎_, inl, inr, _≢_}
 use mathlib.Core.List.{List}
-use Prim.Native.Nat.{ℕ, suc, _+_, _-_, _*_, _/_, _%_, _^_, _<_, _≤_, zero-le, suc-le-suc}
+use Prim.Native.Nat.{ℕ, suc, _+_, _-_, _*_, _/_, _%_, _<_, _≤_, zero-le, suc-le-suc}
 use native.Mathlib.Nat.{le-refl}
 use native.Mathlib.Numerals.{suc-eq-add-one}
 use native.Mathlib.Omega.{arith}
 use lib.Dec.{T}
-use lib.Pow.{pow-lt}
-use lib.Bits.{bitAnd, bitXor, xor-lt}
+use lib.Bits.{bitAnd}
 use lib.Count.{trailingZeros}
-use lib.ListN.{length, getD, set, length-set}
+use lib.ListN.{getD, set, length-set}
 use lib.Seq.{getD-set-same, getD-set-other}
-use Rattle.bits.specs.Mask.{bit, Has}
-use Rattle.bits.proofs.Digits.{bit-zero, bit-pow-same}
-use Rattle.bits.proofs.Masks.{has-pow-cases, has-xor, xor-has}
-use Rattle.bits.proofs.Lowest.{trailing-has, trailing-least, and-pred}
+use Rattle.bits.specs.Mask.{Has}
+use Rattle.bits.proofs.Lowest.{trailing-least}
+use Rattle.bits.proofs.Rest.{Rest, rest-start, rest-end, rest-here, rest-below, rest-next, rest-gone, rest-cases}
 use Rattle.network.specs.Rooms.{step}
 use Rattle.search.specs.Masks.{at, masked}
 use Rattle.search.specs.Sought.{Met, Sought}
@@ -46,7 +44,7 @@ module _ (steps : List ℕ) (s t : ℕ) (qs ps fr : List ℕ) (m h side rest : �
   }
     where
       empty : (j : ℕ) → Has rest j → ⊥
-      empty j r = let e : _≡_ {A = ℕ} 0 1 = sym (bit-zero j) ∙ ap (λ (x : ℕ). bit x j) (sym z) ∙ r in omega arith
+      empty j r = rest-end rest j z r
 
       end : Keep (step (masked steps)) 128 s t m h 128 (at qs) (at ps) (Unseen fr rest side)
       end = keep-jump (step (masked steps)) 128 s t m h (I .y) (at qs) (at ps) (Unseen fr rest side) (I .keep) 128 (I .under) (le-refl 128) (λ x ly lx e u. empty (x / 2) (I .all x lx ly e u))
@@ -59,14 +57,14 @@ module _ (steps : List ℕ) (s t : ℕ) (qs ps fr : List ℕ) (m h side rest : �
           free x l (inr u) = absurd (empty (x / 2) (u .1))
 
   module _ (some : rest ≢ 0) where
-    pub low : ℕ
-    low = trailingZeros 64 rest
+    all-of : Rest rest rest
+    all-of = rest-start rest (I .fits)
 
-    pub low-has : Has rest (trailingZeros 64 rest)
-    low-has = trailing-has 64 rest (I .fits) some .0
+    low-has : Has rest (trailingZeros 64 rest)
+    low-has = rest-here rest rest all-of some
 
     pub low-lt : trailingZeros 64 rest < 64
-    low-lt = trailing-has 64 rest (I .fits) some .1
+    low-lt = rest-below rest rest all-of some
 
     pub inner-lt : 2 * trailingZeros 64 rest + side < 128
     inner-lt = omega (arith, low-lt, lside)
@@ -147,14 +145,14 @@ module _ (steps : List ℕ) (s t : ℕ) (qs ps fr : List ℕ) (m h side rest : �
           since : Since 1 (m + 1) qs₀ ps₀ (set qs m b) (set ps m h)
           since = since-trans 1 m₀ (m + 1) qs₀ ps₀ qs₁ ps₁ (set qs m b) (set ps m h) A (since-add m₀ m qs₁ ps₁ qs ps b h B)
 
-      pub inner-add : b ≢ t → (p : ℕ) → p ≡ 2 ^ trailingZeros 64 rest → Inner steps s t (set qs m b) (set ps m h) fr (m + 1) h side (bitXor rest p)
-      inner-add ne p ep = record {
+      pub inner-more : b ≢ t → Inner steps s t (set qs m b) (set ps m h) fr (m + 1) h side (bitAnd rest (rest - 1))
+      inner-more ne = record {
         sizes = record { queue = length-set qs m b ∙ I .sizes .queue; parent = length-set ps m h ∙ I .sizes .parent; free = I .sizes .free; small = I .sizes .small };
         y = suc (2 * trailingZeros 64 rest + side);
         keep = subst (λ (i : ℕ). Keep (step (masked steps)) 128 s t i h (suc (2 * trailingZeros 64 rest + side)) (at (set qs m b)) (at (set ps m h)) (Unseen fr rest′ side)) (suc-eq-add-one m) kept;
         under = inner-lt;
         more = let l = I .more in omega arith;
-        fits = xor-lt 64 rest p (I .fits) (subst (λ (z : ℕ). z < 2 ^ 64) (sym ep) (pow-lt low-lt));
+        fits = rest-next rest rest all-of some .small;
         other = I .other ∙ ap (λ (z : ℕ). 1 - z % 2) (sym (sameQ h (I .more)));
         ours = λ j r. let k = part j r in (subst (λ (z : ℕ). Has (getD steps z 0) j) (sym (sameQ h (I .more))) (I .ours j (k .0) .0), omega (arith, trailing-least 64 rest j (k .0), k .1));
         all = λ x lx ly e u. whole x lx ly (subst (λ (z : ℕ). T (step (masked steps) z x)) (sameQ h (I .more)) e) u;
@@ -162,19 +160,17 @@ module _ (steps : List ℕ) (s t : ℕ) (qs ps fr : List ℕ) (m h side rest : �
       }
         where
           rest′ : ℕ
-          rest′ = bitXor rest p
-
-          sub : (j : ℕ) → Has p j → Has rest j
-          sub j r = subst (λ (z : ℕ). Has rest z) (sym (has-pow-cases (trailingZeros 64 rest) j (subst (λ (z : ℕ). Has z j) ep r))) low-has
-
-          pow : Has p (trailingZeros 64 rest)
-          pow = subst (λ (z : ℕ). Has z (trailingZeros 64 rest)) (sym ep) (bit-pow-same (trailingZeros 64 rest))
+          rest′ = bitAnd rest (rest - 1)
 
           part : (j : ℕ) → Has rest′ j → Has rest j × (j ≢ trailingZeros 64 rest)
-          part j r = let k = has-xor rest p j (sub j) r in (k .0, λ e. k .1 (subst (λ (z : ℕ). Has p z) (sym e) pow))
+          part = rest-gone rest rest all-of some
 
           rem : (j : ℕ) → Has rest j → j ≢ trailingZeros 64 rest → Has rest′ j
-          rem j r n = xor-has rest p j r (λ q. n (has-pow-cases (trailingZeros 64 rest) j (subst (λ (z : ℕ). Has z j) ep q)))
+          rem j r n = stays (rest-cases rest rest all-of some j r)
+            where
+              stays : (j ≡ trailingZeros 64 rest) ⊎ Has (bitAnd rest (rest - 1)) j → Has (bitAnd rest (rest - 1)) j
+              stays (inl e) = absurd (n e)
+              stays (inr k) = k
 
           to : (x : ℕ) → x < 128 → x ≢ 2 * trailingZeros 64 rest + side → Unseen fr rest side x → Unseen fr rest′ side x
           to x lx n (inl u) = inl u
@@ -197,7 +193,3 @@ module _ (steps : List ℕ) (s t : ℕ) (qs ps fr : List ℕ) (m h side rest : �
               let k = step-parts steps (at qs h) x e in
               let q = k .0 in
               rem (x / 2) (I .all x lx (omega (arith, I .ours (trailingZeros 64 rest) low-has .1)) e (from x u)) (λ z. omega (arith, lside, I .other))
-
-      -- as the code takes it: `rest & (rest - 1)`
-      pub inner-more : b ≢ t → Inner steps s t (set qs m b) (set ps m h) fr (m + 1) h side (bitAnd rest (rest - 1))
-      inner-more q = subst (λ (z : ℕ). Inner steps s t (set qs m b) (set ps m h) fr (m + 1) h side z) (sym (and-pred 64 rest (I .fits) some)) (inner-add q (2 ^ trailingZeros 64 rest) refl)

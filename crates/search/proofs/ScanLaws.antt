@@ -8,11 +8,11 @@
 --   scan-add                                       y is met, and is not the sink
 --   scan-so-far, scan-met                          what is met before and after y is met
 --   scan-end                                       no place is left, so no path is left
-use mathlib.Core.Path.{_≡_, refl, sym, ap, _∙_, subst}
+use mathlib.Core.Path.{_≡_, sym, ap, _∙_, subst}
 use mathlib.Core.Logic.{_⊎_, inl, inr, _≢_}
 use mathlib.Core.Bool.{Bool}
 use mathlib.Core.List.{List, [], _∷_}
-use Prim.Native.Nat.{ℕ, zero, suc, _≤_, _<_, zero-le, suc-le-suc}
+use Prim.Native.Nat.{ℕ, suc, _≤_, _<_, zero-le, suc-le-suc}
 use native.Mathlib.Nat.{not-suc-le-zero, le-refl}
 use native.Mathlib.Decide.{ℕ-discrete}
 use native.Mathlib.Omega.{arith}

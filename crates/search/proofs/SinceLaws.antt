@@ -2,7 +2,8 @@
 -- Assumes nothing.
 --
 --   Since m₀ m qs₀ ps₀ qs ps     from m₀ places met to m: the lists qs₀ and ps₀ have become qs and ps
---   since-none, since-add, since-trans   nothing more, one more place, one after the other
+--   since-none, since-source     nothing more; the source in place 0
+--   since-add, since-trans       one more place; one after the other
 use mathlib.Core.Path.{_≡_, refl, _∙_}
 use mathlib.Core.List.{List}
 use Prim.Native.Nat.{ℕ, _+_, _<_, _≤_}
@@ -15,6 +16,7 @@ use Rattle.search.specs.Masks.{at}
 pub record Since (m₀ m : ℕ) (qs₀ ps₀ qs ps : List ℕ) : Type 0 where
   pub some : 0 < m₀
   pub grown : m₀ ≤ m
+  -- behind the m places met
   pub queue : (i : ℕ) → m ≤ i → at qs i ≡ at qs₀ i
   pub parent : (i : ℕ) → m ≤ i → at ps i ≡ at ps₀ i
   pub first : at ps 0 ≡ at ps₀ 0

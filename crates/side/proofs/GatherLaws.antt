@@ -3,7 +3,7 @@
 --
 --   Gathering                              hits has those of the jobs that are no more in rest from which a marked one is hit
 --   gather-start, gather-below, gather-node, gather-less, gather-hit, gather-miss, gather-turn, gather-end
-use mathlib.Core.Path.{_≡_, sym, ap, _∙_, subst}
+use mathlib.Core.Path.{_≡_, sym, _∙_, subst}
 use mathlib.Core.Logic.{_⊎_, inl, inr, _≢_}
 use mathlib.Core.List.{List}
 use Prim.Native.Nat.{ℕ, _+_, _-_, _*_, _^_, _<_}
@@ -12,11 +12,11 @@ use native.Mathlib.Omega.{arith}
 use lib.Bits.{bitAnd, bitOr, or-lt, and-le-r}
 use lib.Count.{trailingZeros}
 use lib.Pow.{pow-lt, pow-pos}
-use Rattle.bits.specs.Mask.{bit, Has, MaskOf}
+use Rattle.bits.specs.Mask.{Has, MaskOf}
 use Rattle.bits.proofs.Digits.{bit-zero, bit-pow-same}
 use Rattle.bits.proofs.Masks.{has-or-l, has-or-r, has-or-cases, has-and, and-has, has-pow-cases}
 use Rattle.bits.proofs.Lowest.{trailing-has}
-use Rattle.bits.proofs.Rest.{Rest, rest-start, rest-end, rest-low, rest-here, rest-below, rest-less, rest-next, rest-gone, rest-cases}
+use Rattle.bits.proofs.Rest.{Rest, rest-start, rest-end, rest-low, rest-below, rest-less, rest-next, rest-cases}
 use Rattle.search.specs.Masks.{at}
 use Rattle.side.specs.Home.{Gatherable, Hits}
 
@@ -24,6 +24,7 @@ pub record Gathering (S : List ℕ) (side jobs marked rest hits : ℕ) : Type 0 
   pub given : Gatherable S side
   pub rest-part : Rest jobs rest
   pub small : hits < 2 ^ 64
+  -- each hit is one, and each that is no more in rest is there
   pub sound : (u : ℕ) → Has hits u → Hits S side jobs marked u
   pub complete : (u : ℕ) → Hits S side jobs marked u → (Has rest u → ⊥) → Has hits u
 

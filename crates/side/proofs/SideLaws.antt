@@ -4,14 +4,14 @@
 --   Siding                         ins and outs are parts of the sink's side; outs has all out-nodes with a step to ins, and fresh the in-nodes with a step to outs that are not in ins
 --   side-start, side-grow, side-turn, side-end
 --   sided-unique                   two results of `sink_side` are equal
-use mathlib.Core.Path.{_≡_, refl, sym, ap, _∙_, subst}
+use mathlib.Core.Path.{_≡_, refl, sym, subst}
 use mathlib.Core.Logic.{_⊎_, inl, inr, _≢_}
 use mathlib.Core.List.{List, [], _∷_}
-use Prim.Native.Nat.{ℕ, suc, _+_, _-_, _*_, _/_, _%_, _^_, _<_, _≤_}
+use Prim.Native.Nat.{ℕ, _+_, _-_, _*_, _/_, _^_, _<_}
 use native.Mathlib.Decide.{ℕ-discrete}
 use native.Mathlib.Numerals.{suc-eq-add-one}
 use native.Mathlib.Omega.{arith}
-use lib.Bits.{bitOr, bitXor, or-lt, xor-lt}
+use lib.Bits.{bitOr, bitXor, or-lt}
 use lib.Count.{trailingZeros}
 use lib.Dec.{T}
 use lib.Pow.{pow-lt}
@@ -26,12 +26,13 @@ use Rattle.network.specs.Rooms.{step}
 use Rattle.network.specs.Arcs.{inn, out}
 use Rattle.search.specs.Masks.{at, masked}
 use Rattle.search.proofs.MaskSteps.{step-parts, step-made}
-use Rattle.side.specs.Home.{Gatherable, Hits, Sidable, Home, Sided}
+use Rattle.side.specs.Home.{Hits, Sidable, Home, Sided}
 
 pub record Siding (S : List ℕ) (t x ins outs : ℕ) : Type 0 where
   pub given : Sidable S t x
   pub in-small : ins < 2 ^ 64
   pub out-small : outs < 2 ^ 64
+  -- both are of x, and of the sink's side
   pub in-part : (u : ℕ) → Has ins u → Has x u
   pub out-part : (u : ℕ) → Has outs u → Has x u
   pub in-home : (u : ℕ) → Has ins u → Home S t inn u

@@ -2,7 +2,7 @@
 -- Assumes nothing.
 --
 --   flows-unique      the work list after k rounds is one
---   number-unique     an outcome is known by its number
+--   number-unique     an outcome is known by its number; outcome-number-unique: and has one
 --   call-unique       two results of a call are equal, and so are the work lists; on all inputs
 --   call-demand       for an input without faults there is one number of rounds, at most 2n(m + n), and what an allowance gives
 use mathlib.Core.Path.{_≡_, refl, sym, ap, _∙_, subst}
@@ -95,6 +95,9 @@ number-unique NotYet AbortT e = absurd (omega arith)
 number-unique NotYet AbortOthers e = absurd (omega arith)
 number-unique NotYet NotYet e = refl
 
+pub outcome-number-unique : (o : Outcome) (a b : ℕ) → a ≡ number o → b ≡ number o → a ≡ b
+outcome-number-unique o a b p q = p ∙ sym q
+
 -- ---- the call
 
 -- the decision of an answer
@@ -102,7 +105,7 @@ decisionOf : Decision → Answer → Decision
 decisionOf d (Refused k) = d
 decisionOf d (Decided e) = e
 
-decided-unique : (d e : Decision) → Decided d ≡ Decided e → d ≡ e
+pub decided-unique : (d e : Decision) → Decided d ≡ Decided e → d ≡ e
 unfolding decisionOf
 decided-unique d e q = ap (decisionOf d) q
 

@@ -9,6 +9,7 @@ ghost use Rattle.sums.specs.Sum.{sum};
 ghost use Rattle.flow.specs.Accepted.{costOf};
 ghost use Rattle.verdict.specs.Checks.{Looped, Strayed, Payable};
 ghost use Rattle.verdict.specs.Refusals.{Faultless};
+ghost use Rattle.verdict.specs.Answers.{number};
 ghost use Rattle.verdict.specs.Called.{Called};
 ghost use Rattle.verdict.specs.declared.Answer.the-variants.{Decided as Answer·Decided};
 
@@ -18,6 +19,18 @@ pub enum Outcome {
     AbortT,
     AbortOthers,
     NotYet,
+}
+
+// The document's number of an outcome.
+pub fn outcome_number(outcome: Outcome) -> u8
+    ensures { λ r. ⌜ r ≡ number outcome ⌝ }
+{
+    match outcome {
+        Outcome::Wait => 0,
+        Outcome::AbortT => 1,
+        Outcome::AbortOthers => 2,
+        Outcome::NotYet => 3,
+    }
 }
 
 // The verdict on an accepted input: victims as a mask, job k as 2^k.

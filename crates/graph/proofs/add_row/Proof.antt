@@ -2,11 +2,11 @@
 -- The measure: `rest` falls as a number. Assumes nothing.
 use native.Mathlib.Omega.{arith}
 use mathlib.Core.Path.{refl}
-use Prim.Native.Nat.{_<_, _-_}
-use lib.Bits.{and-le-r}
+use Prim.Native.Nat.{_<_}
 use lib.Count.{trailingZeros}
 use Rattle.bits.proofs.Digits.{one-shl}
-use Rattle.graph.proofs.ColumnLaws.{Adding, adding-start, adding-next, adding-turn, adding-end}
+use Rattle.bits.proofs.Rest.{rest-below, rest-less}
+use Rattle.graph.proofs.ColumnLaws.{Adding, adding-start, adding-turn, adding-end}
 use Rattle.graph.proofs.add_row.Statement.{statement}
 use Rattle.graph.proofs.add_row.Tie as tie
 
@@ -20,7 +20,7 @@ loop-holds : tie.Need-loop-holds Inv-loop μ-loop
 loop-holds c = adding-start (c .args .row) (c .args .j) (c .args .columns .now) (c .pre .0) (omega arith) (c .pre .1)
 
 below : (c : tie.In-loop Inv-loop μ-loop) → trailingZeros 64 (c .before .loop .rest) < 64
-below c = adding-next _ _ _ _ _ (c .before .loop .inv) (c .loop-test .taken) .1
+below c = rest-below _ _ (c .before .loop .inv .part) (c .loop-test .taken)
 
 cast-i : tie.Need-cast-i Inv-loop μ-loop
 cast-i c = let n = below c in omega arith
@@ -44,7 +44,7 @@ sub-rest : tie.Need-sub-rest Inv-loop μ-loop
 sub-rest c = omega arith
 
 loop-less : tie.Need-loop-less Inv-loop μ-loop
-loop-less c = let l = c .before .before .loop in omega (arith, and-le-r (l .rest) (l .rest - 1))
+loop-less c = rest-less _ _ (c .before .before .loop .inv .part) (c .before .loop-test .taken)
 
 loop-again : tie.Need-loop-again Inv-loop μ-loop
 loop-again c =

@@ -14,7 +14,7 @@ use Rattle.push.proofs.shift.Reads as shift-reads
 use Rattle.push.proofs.unmark.Reads as unmark-reads
 
 room-requires : tie.Need-room-requires
-room-requires c κs = search needs
+room-requires c κs = c .before .before .before .before .pre .readable
 
 shift-requires : tie.Need-shift-requires
 shift-requires c κs = advance-shiftable _ _ _ _ _ _ _ _ (c .before .before .before .before .before .before .before .pre)

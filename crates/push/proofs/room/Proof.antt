@@ -2,35 +2,34 @@
 use mathlib.Core.Path.{sym}
 use native.Mathlib.Omega.{arith}
 use Rattle.push.proofs.ReadLaws.{read-drops, read-rises, read-along, read-against, place-along, place-against, grid}
-use borrow.Author.Needs.{needs}
 use Rattle.push.proofs.room.Statement.{statement}
 use Rattle.push.proofs.room.Tie as tie
 use Rattle.push.proofs.room.Reads as reads
 use Rattle.push.proofs.room.Lts as lts
 
 mul-result : tie.Need-mul-result
-mul-result c = search needs
+mul-result c = let s = c .before .before in omega (arith, s .pre .from, s .pre .few)
 
 element-copy-out-result : tie.Need-element-copy-out-result
-element-copy-out-result c = search needs
+element-copy-out-result c = let s = c .before .before in omega (arith, s .pre .from, s .pre .few)
 
 returns : tie.Need-returns
 returns c = sym (read-drops _ _ _ _ _ _ (c .before .before .if1 .taken) (c .before .if2 .taken))
 
 mul-result-2 : tie.Need-mul-result-2
-mul-result-2 c = search needs
+mul-result-2 c = let s = c .before .before in omega (arith, s .pre .from, s .pre .few)
 
 shared-slice-read-result : tie.Need-shared-slice-read-result
-shared-slice-read-result c = search needs
+shared-slice-read-result c = let s = c .before .before .before in omega (arith, s .pre .from, s .pre .few)
 
 mul-result-3 : tie.Need-mul-result-3
-mul-result-3 c = search needs
+mul-result-3 c = let s = c .before .before .before in omega (arith, s .pre .from, s .pre .few)
 
 element-copy-out-result-2 : tie.Need-element-copy-out-result-2
-element-copy-out-result-2 c = search needs
+element-copy-out-result-2 c = let s = c .before .before .before in omega (arith, s .pre .from, s .pre .few)
 
 sub-result : tie.Need-sub-result
-sub-result c = search needs
+sub-result c = c .before .before .before .before .pre .job
 
 returns-2 : tie.Need-returns-2
 returns-2 c = sym (read-rises _ _ _ _ _ _ (c .before .before .before .if1 .taken) (c .before .before .if2 .left))
@@ -48,7 +47,7 @@ shared-slice-read-result-2 : tie.Need-shared-slice-read-result-2
 shared-slice-read-result-2 c = let s = c .before .before .before in omega (arith, place-along _ _ _ (s .pre .from) (s .pre .to), s .pre .size)
 
 sub-result-2 : tie.Need-sub-result-2
-sub-result-2 c = search needs
+sub-result-2 c = c .before .before .before .pre .wait
 
 returns-3 : tie.Need-returns-3
 returns-3 c = sym (read-along _ _ _ _ _ _ (c .before .before .if1 .left) (c .before .if3 .taken))

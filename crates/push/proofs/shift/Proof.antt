@@ -10,37 +10,37 @@ use Rattle.push.proofs.shift.Reads as reads
 use Rattle.push.proofs.shift.Lts as lts
 
 mul-thru : tie.Need-mul-thru
-mul-thru c = search needs
+mul-thru c = let s = c .before .before in omega (arith, s .pre .from, s .pre .few)
 
 element-copy-out-thru : tie.Need-element-copy-out-thru
-element-copy-out-thru c = search needs
+element-copy-out-thru c = let s = c .before .before in omega (arith, s .pre .from, s .pre .few)
 
 sub-thru : tie.Need-sub-thru
 sub-thru c = let s = c .before .before .before in omega (arith, s .pre .dropped (c .before .before .if1 .taken) (c .before .if2 .taken))
 
 mul-thru-2 : tie.Need-mul-thru-2
-mul-thru-2 c = search needs
+mul-thru-2 c = let s = c .before .before .before in omega (arith, s .pre .from, s .pre .few)
 
 element-write-thru : tie.Need-element-write-thru
-element-write-thru c = search needs
+element-write-thru c = let s = c .before .before .before in omega (arith, s .pre .from, s .pre .few)
 
 returns : tie.Need-returns
 returns c = drops (c .before .before .if1 .taken) (c .before .if2 .taken) refl refl
 
 mul-thru-3 : tie.Need-mul-thru-3
-mul-thru-3 c = search needs
+mul-thru-3 c = let s = c .before .before in omega (arith, s .pre .from, s .pre .few)
 
 element-copy-out-thru-2 : tie.Need-element-copy-out-thru-2
-element-copy-out-thru-2 c = search needs
+element-copy-out-thru-2 c = let s = c .before .before in omega (arith, s .pre .from, s .pre .few)
 
 add-thru : tie.Need-add-thru
 add-thru c = let s = c .before .before .before in omega (arith, s .pre .risen (c .before .before .if1 .taken) (c .before .if2 .left))
 
 mul-thru-4 : tie.Need-mul-thru-4
-mul-thru-4 c = search needs
+mul-thru-4 c = let s = c .before .before .before in omega (arith, s .pre .from, s .pre .few)
 
 element-write-thru-2 : tie.Need-element-write-thru-2
-element-write-thru-2 c = search needs
+element-write-thru-2 c = let s = c .before .before .before in omega (arith, s .pre .from, s .pre .few)
 
 returns-2 : tie.Need-returns-2
 returns-2 c = rises (c .before .before .if1 .taken) (c .before .if2 .left) refl refl

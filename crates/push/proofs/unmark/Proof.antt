@@ -4,26 +4,25 @@ use Prim.Native.Nat.{_/_}
 use native.Mathlib.Omega.{arith}
 use Rattle.bits.proofs.Digits.{one-shl}
 use Rattle.push.specs.Advance.{withoutStep}
-use borrow.Author.Needs.{needs}
 use Rattle.push.proofs.unmark.Statement.{statement}
 use Rattle.push.proofs.unmark.Tie as tie
 use Rattle.push.proofs.unmark.Reads as reads
 use Rattle.push.proofs.unmark.Lts as lts
 
 mul-steps : tie.Need-mul-steps
-mul-steps c = search needs
+mul-steps c = omega (arith, c .pre .from)
 
 element-copy-out-steps : tie.Need-element-copy-out-steps
-element-copy-out-steps c = search needs
+element-copy-out-steps c = c .pre .from
 
 shl-steps : tie.Need-shl-steps
-shl-steps c = search needs
+shl-steps c = omega (arith, c .before .pre .to)
 
 mul-steps-2 : tie.Need-mul-steps-2
-mul-steps-2 c = search needs
+mul-steps-2 c = omega (arith, c .before .pre .from)
 
 element-write-steps : tie.Need-element-write-steps
-element-write-steps c = search needs
+element-write-steps c = c .before .pre .from
 
 returns : tie.Need-returns
 unfolding withoutStep

@@ -1,10 +1,7 @@
 -- `search`: the queue holds the nodes met so far in the order of first shortest paths, `free` those not met; the inner loop takes the neighbours of one node in rising order.
-use borrow.Author.Needs.{needs}
-use Prim.Native.Nat.{ℕ, _≤_, _<_, _-_, _+_, _*_, _/_, _%_, _^_, zero-le}
+use Prim.Native.Nat.{_≤_, _<_, _-_, _/_}
 use lib.Count.{trailingZeros}
-use mathlib.Core.Path.{_≡_, refl, sym, ap, _∙_, subst}
-use mathlib.Core.Logic.{⊎-elim, inl, inr}
-use lib.ListN.{length, getD, set, length-set}
+use mathlib.Core.Path.{_≡_, refl}
 use Rattle.bits.proofs.Digits.{one-shl}
 use Rattle.search.proofs.SinceLaws.{Since, since-none, since-source, since-add, since-trans}
 use Rattle.search.proofs.OuterLaws.{Outer, Inner, outer-start, outer-few, outer-node, outer-sought, outer-open}

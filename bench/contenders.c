@@ -1,0 +1,51 @@
+#include "contenders.h"
+#include "reference.h"
+#ifdef LIBRARIES
+#include "libraries.h"
+#endif
+
+/* The C entry of the proved library. */
+extern uint8_t pasagumdil_verdict(const uint8_t *rows, size_t rows_len,
+                                  const uint8_t *costs, size_t costs_len,
+                                  uint64_t t, uint32_t allowance,
+                                  uint8_t *work, size_t work_len,
+                                  uint8_t *answer, size_t answer_len);
+
+static uint8_t make_reference(const struct call *c, struct lent *lent)
+{
+    return reference_verdict(c->rows, 8 * c->n, c->costs, 8 * c->n, c->t,
+                             c->allowance, lent->work, WORK_BYTES,
+                             lent->answer, ANSWER_BYTES);
+}
+
+static uint8_t make_proved(const struct call *c, struct lent *lent)
+{
+    return pasagumdil_verdict(c->rows, 8 * c->n, c->costs, 8 * c->n, c->t,
+                              c->allowance, lent->work, WORK_BYTES,
+                              lent->answer, ANSWER_BYTES);
+}
+
+#ifdef LIBRARIES
+static uint8_t make_lemon(const struct call *c, struct lent *lent)
+{
+    put_number(lent->answer + 2, lemon_price(c->rows, c->costs, c->n, c->t));
+    return 0;
+}
+
+static uint8_t make_boost(const struct call *c, struct lent *lent)
+{
+    put_number(lent->answer + 2, boost_price(c->rows, c->costs, c->n, c->t));
+    return 0;
+}
+#endif
+
+const struct contender contenders[] = {
+    [REFERENCE] = {"reference", false, make_reference},
+    [PROVED] = {"proved", false, make_proved},
+#ifdef LIBRARIES
+    {"lemon", true, make_lemon},
+    {"boost", true, make_boost},
+#endif
+};
+
+const unsigned contender_count = sizeof contenders / sizeof contenders[0];

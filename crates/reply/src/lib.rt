@@ -1,0 +1,64 @@
+// Text in, line out: the program's whole work, on slices.
+//
+// `reply` takes any text and writes the line that answers it, an answer or a refusal, at the front of a lent list of 45 places or more;
+// it returns how long the line is, and leaves the rest of the list as it was. A shorter list gets 0 and nothing written.
+ghost use mathlib.Core.Path.{_≡_};
+ghost use lib.ListN.{length};
+ghost use Rattle.graph.specs.Waits.{waits};
+ghost use Rattle.flow.specs.Accepted.{costOf};
+ghost use Rattle.verdict.specs.Refusals.{Faultless};
+ghost use Rattle.verdict.specs.Answers.{number, Verdict};
+ghost use Rattle.frames.specs.Records.{answered};
+ghost use Rattle.reply.specs.Replied.{Replied};
+
+// The answer frame of a verdict.
+fn answer_frame(d: verdict::Decision) -> frames::Answer
+    ensures { λ r. ⌜ r ≡ answered (number (d .outcome)) (d .price) (d .rounds) (d .victims) ⌝ }
+{
+    let outcome = d.outcome;
+    frames::Answer {
+        outcome: verdict::outcome_number(outcome),
+        price: d.price,
+        rounds: d.rounds,
+        victims: d.victims,
+    }
+}
+
+// The verdict on jobs without faults.
+fn decide(rows: &[u64], costs: &[u64], t: usize, allowance: u32) -> frames::Answer
+    requires { ⌜ Faultless (now rows) (now costs) t 4096 ⌝ }
+    ensures { λ r. ⌜ Verdict (waits (now (rows .entry))) (length (now (rows .entry))) t (costOf (now (costs .entry))) allowance (r .outcome) (r .price) (r .rounds) (r .victims) ⌝ }
+{
+    let mut work = [0u64; 4096];
+    let answer = verdict::verdict(rows, costs, t, allowance, &mut work);
+    match answer {
+        verdict::Answer::Refused(k) => frames::Answer {
+            outcome: k,
+            price: 0,
+            rounds: 0,
+            victims: 0,
+        },
+        verdict::Answer::Decided(d) => answer_frame(d),
+    }
+}
+
+// The line that answers a text.
+pub fn reply(text: &[u8], line: &mut [u8]) -> usize
+    ensures { λ r. ⌜ Replied (now (text .entry)) (now (line .entry)) r (now (line .exit)) ⌝ }
+{
+    if line.len() < 45 {
+        return 0;
+    }
+    let mut rows = [0u64; 64];
+    let mut costs = [0u64; 64];
+    let snapshot = reader::read(text, &mut rows, &mut costs);
+    let refusal = snapshot.refusal;
+    if refusal.number != 0 {
+        lines::write_refusal(refusal, line);
+        return 9;
+    }
+    let n = snapshot.n;
+    let answer = decide(&rows[..n], &costs[..n], snapshot.t, snapshot.allowance);
+    lines::write_answer(answer, line);
+    45
+}
