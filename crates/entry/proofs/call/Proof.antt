@@ -11,13 +11,13 @@ use Rattle.lists.proofs.read_numbers.Reads as read-numbers-reads
 use Rattle.verdict.proofs.verdict.Reads as verdict-reads
 
 read-numbers-requires : tie.Need-read-numbers-requires
-read-numbers-requires c κs = search needs
+read-numbers-requires c κs = omega arith
 
 read-numbers-requires-2 : tie.Need-read-numbers-requires-2
-read-numbers-requires-2 c κs = search needs
+read-numbers-requires-2 c κs = omega arith
 
 verdict-requires : tie.Need-verdict-requires
-verdict-requires c κs = search needs
+verdict-requires c κs = tt
 
 enum-known-given : tie.Need-enum-known-given
 enum-known-given c = search needs
@@ -42,41 +42,41 @@ give-requires c κs =
     (flows-fit _ _ _ _ (s .args .work .now) (s .args .answer .now) (s .pre .shape) _ _ (numbered v), s .pre .shape .places)
 
 same-length : tie.Need-same-length
-same-length c = search needs
+same-length c = omega arith
 
 same-length-2 : tie.Need-same-length-2
-same-length-2 c = search needs
+same-length-2 c = omega arith
 
 same-length-3 : tie.Need-same-length-3
-same-length-3 c = search needs
+same-length-3 c = omega arith
 
 returns : tie.Need-returns
 returns c =
     let v = c .before .before .before in
     let s = v .before .before .before .before .before .before .before .before .before .before .before .before .before .before .before .before .before .before .before .before .before in
-    entered-refused _ _ _ _ _ _ (s .pre .shape) _ _ _ (numbered v) (search needs)
+    entered-refused _ _ _ _ _ _ (s .pre .shape) _ _ _ (numbered v) (c .before .given .given .1)
 
 same-length-4 : tie.Need-same-length-4
-same-length-4 c = search needs
+same-length-4 c = omega arith
 
 same-length-5 : tie.Need-same-length-5
-same-length-5 c = search needs
+same-length-5 c = omega arith
 
 same-length-6 : tie.Need-same-length-6
-same-length-6 c = search needs
+same-length-6 c = omega arith
 
 same-length-7 : tie.Need-same-length-7
-same-length-7 c = search needs
+same-length-7 c = omega arith
 
 same-length-8 : tie.Need-same-length-8
-same-length-8 c = search needs
+same-length-8 c = omega arith
 
 returns-2 : tie.Need-returns-2
 returns-2 c =
     let g = c .before .before .before .before in
     let v = g .before .before .before .before .before .before .before in
     let s = v .before .before .before .before .before .before .before .before .before .before .before .before .before .before .before .before .before .before .before .before .before in
-    entered-given _ _ _ _ _ _ (s .pre .shape) _ _ _ _ _ (numbered v) (search needs) (g .give .ensures)
+    entered-given _ _ _ _ _ _ (s .pre .shape) _ _ _ _ _ (numbered v) (g .before .before .before .before .before .given2 .given .1) (g .give .ensures)
 
 pub call-spec : {M : Type 1} → statement M
 call-spec =

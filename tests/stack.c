@@ -1,0 +1,69 @@
+/* How much stack a call of the C entry takes: the call runs on a stack of its
+ * own that was painted before. Prints the bytes for 8, 16, 32 and 64 jobs and
+ * ends with 1 where a call takes more than PASAGUMDIL_STACK_BYTES. x86-64. */
+#include "pasagumdil.h"
+
+#include <stdio.h>
+#include <string.h>
+
+enum { STACK = 2 * PASAGUMDIL_STACK_BYTES, PAINT = 0xA7 };
+
+static _Alignas(64) uint8_t stack[STACK];
+static uint8_t rows[512], costs[512], work[32768], answer[22];
+static size_t jobs;
+
+/* One ring through all jobs and waits back, so that rounds are made. */
+static void make_lists(size_t n)
+{
+    memset(rows, 0, sizeof rows);
+    memset(costs, 0, sizeof costs);
+    for (size_t j = 0; j < n; j++) {
+        size_t next = (j + 1) % n, back = (j + n - 1) % n;
+        rows[8 * j + 7 - next / 8] |= (uint8_t)(1u << next % 8);
+        rows[8 * j + 7 - back / 8] |= (uint8_t)(1u << back % 8);
+        costs[8 * j + 7] = (uint8_t)(1 + j);
+    }
+    jobs = n;
+}
+
+static void call(void)
+{
+    uint8_t refusal = pasagumdil_verdict(rows, 8 * jobs, costs, 8 * jobs, 0,
+                                         UINT32_MAX, work, sizeof work,
+                                         answer, sizeof answer);
+    answer[0] = refusal == PASAGUMDIL_ANSWERED ? answer[0] : 0;
+}
+
+/* Runs `function` on the painted stack. */
+static void run_there(void (*function)(void))
+{
+    __asm__ volatile("movq %%rsp, %%rbx\n\t"
+                     "movq %0, %%rsp\n\t"
+                     "callq *%1\n\t"
+                     "movq %%rbx, %%rsp"
+                     :
+                     : "r"(stack + STACK), "r"(function)
+                     : "rax", "rbx", "rcx", "rdx", "rsi", "rdi", "r8", "r9",
+                       "r10", "r11", "xmm0", "xmm1", "xmm2", "xmm3", "xmm4",
+                       "xmm5", "xmm6", "xmm7", "cc", "memory");
+}
+
+int main(void)
+{
+    int bad = 0;
+    printf("stack:");
+    for (size_t n = 8; n <= 64; n *= 2) {
+        size_t untouched = 0;
+        make_lists(n);
+        run_there(call); /* so that the dynamic linker has found memset() */
+        memset(stack, PAINT, sizeof stack);
+        run_there(call);
+        while (untouched < STACK && stack[untouched] == PAINT) {
+            untouched++;
+        }
+        printf(" %zu bytes for %zu jobs%s", STACK - untouched, n,
+               n < 64 ? "," : "\n");
+        bad |= answer[0] != 3 || STACK - untouched > PASAGUMDIL_STACK_BYTES;
+    }
+    return bad;
+}
