@@ -1,3 +1,4 @@
 pub mod ReadLaws
 pub mod ByteLists
 pub mod WriteLaws
+pub mod Unique

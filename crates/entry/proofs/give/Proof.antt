@@ -6,7 +6,6 @@ use Rattle.entry.proofs.give.Tie as tie
 use Rattle.entry.proofs.give.Reads as reads
 use Rattle.entry.proofs.give.Lts as lts
 use Rattle.codec.proofs.put_answer.Reads as put-answer-reads
-
 use Rattle.frames.proofs.Answer.new.Reads as new-reads
 use Rattle.lists.proofs.write_numbers.Reads as write-numbers-reads
 
