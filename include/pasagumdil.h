@@ -32,7 +32,8 @@ enum {
     PASAGUMDIL_LINE_BYTES = 45,   /* bytes of the longest line, its feed with it */
 
     /* Stack to keep free for a call, whatever it is given. It takes less: up to
-     * 3,000 bytes for 8 jobs, 5,000 for 16, 11,500 for 32, 36,500 for 64. */
+     * 3,500 bytes for 8 jobs, 5,000 for 16, 11,500 for 32, 36,500 for 64, and
+     * 37,500 for a text. */
     PASAGUMDIL_STACK_BYTES = 40960
 };
 
@@ -120,8 +121,8 @@ uint8_t pasagumdil_verdict(const uint8_t *rows, size_t rows_len,
  *                       front; bytes behind it keep their values.
  *
  * Returns the length of the line, 9 for a refusal and 45 for an answer; or 0
- * where line_len is below 45, and then nothing is written. It takes some 40,000
- * bytes of stack. line must not overlap text. */
+ * where line_len is below 45, and then nothing is written. line must
+ * not overlap text. */
 size_t pasagumdil_answer(const uint8_t *text, size_t text_len,
                          uint8_t *line, size_t line_len);
 

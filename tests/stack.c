@@ -1,6 +1,7 @@
 /* How much stack a call of the C entry takes: the call runs on a stack of its
- * own that was painted before. Prints the bytes for 8, 16, 32 and 64 jobs and
- * ends with 1 where a call takes more than PASAGUMDIL_STACK_BYTES. x86-64. */
+ * own that was painted before. Prints the bytes for 8, 16, 32 and 64 jobs, and
+ * for a text of 64 jobs, and ends with 1 where a call takes more than
+ * PASAGUMDIL_STACK_BYTES. x86-64. */
 #include "pasagumdil.h"
 
 #include <stdio.h>
@@ -11,6 +12,8 @@ enum { STACK = 2 * PASAGUMDIL_STACK_BYTES, PAINT = 0xA7 };
 static _Alignas(64) uint8_t stack[STACK];
 static uint8_t rows[512], costs[512], work[32768], answer[22];
 static size_t jobs;
+static char text[4096];
+static uint8_t line[45];
 
 /* One ring through all jobs and waits back, so that rounds are made. */
 static void make_lists(size_t n)
@@ -34,6 +37,25 @@ static void call(void)
     answer[0] = refusal == PASAGUMDIL_ANSWERED ? answer[0] : 0;
 }
 
+/* 64 jobs at 16 pools: job j holds pool j % 16 and waits at the next one. */
+static void make_text(void)
+{
+    char *at = text + sprintf(text, "01000003E800010001401000FFFFFFFF\n");
+    for (unsigned j = 0; j < 64; j++) {
+        at += sprintf(at, "02%02X0000038400000001", j);
+        for (unsigned p = 0; p < 16; p++) {
+            unsigned state = p == j % 16 ? 1 : p == (j + 1) % 16 ? 2 : 0;
+            at += sprintf(at, "%02X", state);
+        }
+        at += sprintf(at, "\n");
+    }
+}
+
+static void call_text(void)
+{
+    pasagumdil_answer((const uint8_t *)text, strlen(text), line, sizeof line);
+}
+
 /* Runs `function` on the painted stack. */
 static void run_there(void (*function)(void))
 {
@@ -48,22 +70,32 @@ static void run_there(void (*function)(void))
                        "xmm5", "xmm6", "xmm7", "cc", "memory");
 }
 
+/* The bytes of stack that `function` takes. */
+static size_t taken_by(void (*function)(void))
+{
+    size_t untouched = 0;
+    run_there(function); /* so that the dynamic linker has found memset() */
+    memset(stack, PAINT, sizeof stack);
+    run_there(function);
+    while (untouched < STACK && stack[untouched] == PAINT) {
+        untouched++;
+    }
+    return STACK - untouched;
+}
+
 int main(void)
 {
     int bad = 0;
+    size_t taken;
     printf("stack:");
     for (size_t n = 8; n <= 64; n *= 2) {
-        size_t untouched = 0;
         make_lists(n);
-        run_there(call); /* so that the dynamic linker has found memset() */
-        memset(stack, PAINT, sizeof stack);
-        run_there(call);
-        while (untouched < STACK && stack[untouched] == PAINT) {
-            untouched++;
-        }
-        printf(" %zu bytes for %zu jobs%s", STACK - untouched, n,
-               n < 64 ? "," : "\n");
-        bad |= answer[0] != 3 || STACK - untouched > PASAGUMDIL_STACK_BYTES;
+        taken = taken_by(call);
+        printf(" %zu bytes for %zu jobs,", taken, n);
+        bad |= answer[0] != 3 || taken > PASAGUMDIL_STACK_BYTES;
     }
-    return bad;
+    make_text();
+    taken = taken_by(call_text);
+    printf(" %zu bytes for a text of 64 jobs\n", taken);
+    return bad || memcmp(line, "03", 2) != 0 || taken > PASAGUMDIL_STACK_BYTES;
 }
