@@ -42,7 +42,8 @@ fn answer(letter: u8, rows: &[u64], costs: &[u64], t: usize, allowance: u32, wor
         print_rounds(rows, costs, t, allowance, work);
         return;
     }
-    print_verdict(rows, costs, t, allowance, work);
+    let answer = verdict::verdict(rows, costs, t, allowance, work);
+    print_verdict(answer, work);
 }
 
 // The line at a place behind its letter, and the place behind it.

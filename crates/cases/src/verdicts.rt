@@ -66,9 +66,8 @@ fn print_answer(answer: verdict::Answer) {
     }
 }
 
-// Makes a verdict call and writes its answer and the digest.
-pub fn print_verdict(rows: &[u64], costs: &[u64], t: usize, allowance: u32, work: &mut [u64]) {
-    let answer = verdict::verdict(rows, costs, t, allowance, work);
+// Writes the answer of a verdict call and the digest of the work list that it left.
+pub fn print_verdict(answer: verdict::Answer, work: &[u64]) {
     io::write_all(STDOUT_FILENO, b"V ");
     print_answer(answer);
     io::write_all(STDOUT_FILENO, b" ");
