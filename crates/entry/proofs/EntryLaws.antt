@@ -3,33 +3,53 @@
 --
 --   entry-unique      two results of a call are equal, and so are the lists that it leaves; on all inputs
 --   refused-byte      a byte fault is refused
---   read-lists        what was read are the numbers of the lists, so the verdict call is the one that the statement names
---   flows-size        the flows are n × n
---   entered-refused   a refusal of the verdict call is one of the entry
---   entered-given     a decision, written out, is an answer of the entry
---   given             the bytes that are written out
+--   still             the decision of a wait
+--   given             the bytes of an answer frame
+--   read-rows, read-costs, read-count, lent-few, lent-room   the lists that were read, and their room
+--   started-refused, started-waits, started-ahead   the three ways in which a call starts
+--   started-over, started-ringed, started-same      what a start leaves, by whether x is 0
+--   entered-opened    the rounds, written out, are an answer of the entry
 use mathlib.Core.Path.{_≡_, refl, sym, ap, _∙_, subst}
+use mathlib.Core.Logic.{_≢_}
+use mathlib.Core.Bool.{Bool, true, false}
 use mathlib.Core.List.{List, _++_}
-use Prim.Native.Nat.{ℕ, _*_, _/_, _≤_}
+use Prim.Native.Nat.{ℕ, zero, suc, _*_, _/_, _<_, _≤_}
 use native.Mathlib.Omega.{arith}
-use lib.ListN.{length, drop, replicate, length-replicate}
+use lib.ListN.{length, getD, drop, replicate, length-replicate}
+use Rattle.bits.specs.Mask.{MaskOf}
+use Rattle.bits.proofs.Rest.{rest-end}
+use Rattle.walks.proofs.ReachLaws.{reaches-here}
+use Rattle.graph.specs.Waits.{waits}
+use Rattle.graph.specs.Rings.{Ring, InX, RingThrough}
 use Rattle.frames.specs.declared.Answer.{Answer as Frame}
-use Rattle.frames.specs.Records.{answered}
 use Rattle.codec.specs.Frame.{answerBytes}
 use Rattle.lists.specs.Numbers.{numbers, numbersOf, allBytes}
+use Rattle.lists.proofs.ReadLaws.{numbers-length}
+use Rattle.verdict.specs.declared.Outcome.the-variants.{Wait}
 use Rattle.verdict.specs.declared.Decision.{Decision}
 use Rattle.verdict.specs.declared.Answer.{Answer}
-use Rattle.verdict.specs.declared.Answer.the-variants.{Refused, Decided}
-use Rattle.verdict.specs.Refusals.{Refusal, Faultless}
-use Rattle.verdict.specs.Answers.{number}
-use Rattle.verdict.specs.Called.{Called}
-use Rattle.verdict.specs.Called.Called.{refuses as turnsDown, answers as decides}
+use Rattle.verdict.specs.declared.Answer.the-variants.{Decided}
+use Rattle.verdict.specs.Refusals.{Refusal, Faultless, Due}
+use Rattle.verdict.specs.Called.{Ringed, Called}
+use Rattle.verdict.proofs.RefusalLaws.{due-refused}
+use Rattle.verdict.proofs.DecideLaws.{through-none, decide-waits}
 use Rattle.verdict.proofs.CallLaws.{call-unique}
+use Rattle.reply.specs.Replied.{frameOf}
 use Rattle.entry.specs.Faults.{EntryFault}
-use Rattle.entry.specs.Entered.{frameOf, Entered}
+use Rattle.entry.specs.Entered.{Entered}
 use Rattle.entry.specs.Entered.Entered.{refuses, answers}
-use Rattle.entry.specs.Inside.{Given, Shaped, Lent}
+use Rattle.entry.specs.Inside.{Shaped, Lent, Started, Opened}
+use Rattle.entry.specs.Inside.Started.{over, ahead}
 use Rattle.entry.proofs.FaultLaws.{count, Passed, refusal-unique, refuse-byte, refuse-number, shaped-faultless}
+
+-- "wait", with no round
+abbrev pub still : Decision
+still = record { outcome = Wait; price = 0; rounds = 0; victims = 0 }
+
+zeros : (n i : ℕ) → getD {A = ℕ} (replicate n 0) i 0 ≡ 0
+zeros zero i = refl
+zeros (suc n) zero = refl
+zeros (suc n) (suc i) = zeros n i
 
 -- how many flows there are
 abbrev pub square : List ℕ → ℕ
@@ -54,57 +74,99 @@ module _ (rows costs : List ℕ) (τ allowance : ℕ) (work answer : List ℕ) w
   pub refused-byte : (m : ℕ) → Passed rows costs m → EntryFault rows costs τ (length work) (length answer) m → Entered rows costs τ allowance work answer m work answer
   refused-byte m P f = refuses m (refuse-byte rows costs τ (length work) (length answer) m P f)
 
-  -- ---- the call on the numbers
+-- ---- the call on the numbers, behind the byte checks
 
-  pub read-lists : (rowList costList flows r c after : List ℕ) (x : Answer) → Lent rows costs rowList costList flows work answer
-      → r ≡ numbers (length rowList) rows → c ≡ numbers (length costList) costs → Called r c τ allowance flows x after
-      → OnNumbers rows costs τ allowance x after
-  read-lists rowList costList flows r c after x L e f C =
-      let S = L .shape in
-      let p : r ≡ numbersOf rows = e ∙ ap (λ (z : ℕ). numbers z rows) (L .rowPlaces) in
-      let q : c ≡ numbersOf costs = f ∙ ap (λ (z : ℕ). numbers z costs) (L .costPlaces ∙ ap (λ (z : ℕ). z / 8) (sym (S .priced))) in
-      let z : flows ≡ replicate (square rows) 0 = L .zeros ∙ ap (λ (n : ℕ). replicate (n * n) 0) (sym (count rows)) in
-      subst (λ (l : List ℕ). Called (numbersOf rows) (numbersOf costs) τ allowance l x after) z
-      (subst (λ (l : List ℕ). Called (numbersOf rows) l τ allowance flows x after) q (subst (λ (l : List ℕ). Called l c τ allowance flows x after) p C))
+module _ (rows costs : List ℕ) (τ : ℕ) (work answer : List ℕ) where
+  module _ (rowList costList : List ℕ) (L : Lent rows costs rowList costList work answer) where
+    -- what was read are the numbers of the lists
+    pub read-rows : (r : List ℕ) → r ≡ numbers (length rowList) rows → r ≡ numbersOf rows
+    read-rows r e = e ∙ ap (λ (z : ℕ). numbers z rows) (L .rowPlaces)
 
-  -- the n × n places of the call
-  places : length {A = ℕ} (replicate (square rows) 0) ≡ square rows
-  places = length-replicate (square rows) 0
+    pub read-costs : (c : List ℕ) → c ≡ numbers (length costList) costs → c ≡ numbersOf costs
+    read-costs c e = e ∙ ap (λ (z : ℕ). numbers z costs) (L .costPlaces ∙ ap (λ (z : ℕ). z / 8) (sym (L .shape .priced)))
 
-  pub flows-size : (x : Answer) (after : List ℕ) → OnNumbers rows costs τ allowance x after → length after ≡ square rows
-  flows-size x after (turnsDown k r) = places
-  flows-size x after (decides d flows f v F) = F .size ∙ places
+    pub read-count : (r : List ℕ) → r ≡ numbers (length rowList) rows → length rowList ≡ length r
+    read-count r e = sym (ap length e ∙ numbers-length (length rowList) rows)
 
-  faultless : (x : Answer) (d : Decision) (after : List ℕ) → OnNumbers rows costs τ allowance x after → x ≡ Decided d
-      → Faultless (numbersOf rows) (numbersOf costs) τ (square rows)
-  faultless x d after (turnsDown j r) e = let z : _≡_ {A = ℕ} 0 1 = cc in absurd (omega arith)
-  faultless x d after (decides d′ flows f v F) e = subst (λ (z : ℕ). Faultless (numbersOf rows) (numbersOf costs) τ z) places f
+    pub lent-few : length rowList ≤ 64
+    lent-few = omega (arith, L .rowPlaces, L .shape .few)
+
+    pub lent-room : 8 * (length rowList * length rowList) ≤ length work
+    lent-room = let e = ap (λ (z : ℕ). z * z) (L .rowPlaces) in omega (arith, e, L .shape .room)
 
   module _ (S : Shaped rows costs (length work) (length answer)) where
-    pub flows-fit : (x : Answer) (after : List ℕ) → OnNumbers rows costs τ allowance x after → 8 * length after ≤ length work
-    flows-fit x after C =
-        let s = flows-size x after C ∙ ap (λ (n : ℕ). n * n) (count rows) in
-        omega (arith, s, S .room)
+    -- a decision on the numbers, written out, is an answer of the entry
+    entered-given : (allowance : ℕ) (d : Decision) (after w a : List ℕ) → Faultless (numbersOf rows) (numbersOf costs) τ (square rows)
+        → OnNumbers rows costs τ allowance (Decided d) after → w ≡ allBytes after ++ drop (8 * length after) work → a ≡ answerBytes (frameOf d) ++ drop 22 answer
+        → Entered rows costs τ allowance work answer 0 w a
+    entered-given allowance d after w a F C p q = rw (p, q) (answers d after (shaped-faultless rows costs τ (length work) (length answer) S F) C)
 
-    pub entered-refused : (x : Answer) (k : ℕ) (after : List ℕ) → OnNumbers rows costs τ allowance x after → x ≡ Refused k
-        → Entered rows costs τ allowance work answer k work answer
-    entered-refused x k after (turnsDown j r) e =
-        let p : j ≡ k = cc in
-        subst (λ (z : ℕ). Entered rows costs τ allowance work answer z work answer) p
-        (refuses j (refuse-number rows costs τ (length work) (length answer) S j (subst (λ (z : ℕ). Refusal (numbersOf rows) (numbersOf costs) τ z j) places r)))
-    entered-refused x k after (decides d flows f v F) e = let z : _≡_ {A = ℕ} 0 1 = cc in absurd (omega arith)
+    module _ (r c : List ℕ) (p : r ≡ numbersOf rows) (q : c ≡ numbersOf costs) where
+      -- what is true of the lists that were read is true of the numbers
+      on-numbers : (P : List ℕ → List ℕ → Type 0) → P r c → P (numbersOf rows) (numbersOf costs)
+      on-numbers P h = subst (P (numbersOf rows)) q (subst (λ (l : List ℕ). P l c) p h)
 
-    pub entered-given : (x : Answer) (d : Decision) (after w a : List ℕ) → OnNumbers rows costs τ allowance x after → x ≡ Decided d
-        → Given d after work answer w a → Entered rows costs τ allowance work answer 0 w a
-    entered-given x d after w a C e G =
-        rw (G .flowBytes, G .frame)
-        (answers d after (shaped-faultless rows costs τ (length work) (length answer) S (faultless x d after C e))
-        (subst (λ (z : Answer). OnNumbers rows costs τ allowance z after) e C))
+      pub started-refused : (k n : ℕ) → n ≡ length r → Due r c τ (n * n) k → k ≢ 0 → Started rows costs τ work answer r c k 0 work answer
+      started-refused k n e D ne = over k work answer (λ allowance. refuses k (refuse-number rows costs τ (length work) (length answer) S k
+          (on-numbers (λ a b. Refusal a b τ (length a * length a) k) (subst (λ (z : ℕ). Refusal r c τ (z * z) k) e (due-refused r c τ (n * n) k D ne)))))
 
--- what `give` leaves, where f is the answer frame and o the outcome's number
-pub given : (d : Decision) (flows work answer w a : List ℕ) (o : ℕ) (f : Frame) → w ≡ allBytes flows ++ drop (8 * length flows) work
-    → a ≡ answerBytes f ++ drop 22 answer → f ≡ answered o (d .price) (d .rounds) (d .victims) → o ≡ number (d .outcome) → Given d flows work answer w a
-given d flows work answer w a o f p q r s = record {
-  flowBytes = p;
-  frame = q ∙ ap (λ (z : Frame). answerBytes z ++ drop 22 answer) (r ∙ ap (λ (z : ℕ). answered z (d .price) (d .rounds) (d .victims)) s);
-}
+      module _ (x n : ℕ) (b : Bool) (e : n ≡ length r) (F : Faultless r c τ (n * n)) (X : MaskOf (InX (waits r) (length r) τ) x) (R : RingThrough (waits r) (length r) τ b) where
+        faultless : Faultless (numbersOf rows) (numbersOf costs) τ (square rows)
+        faultless = on-numbers (λ a b. Faultless a b τ (length a * length a)) (subst (λ (z : ℕ). Faultless r c τ (z * z)) e F)
+
+        places : n * n ≡ square rows
+        places = ap (λ (z : ℕ). z * z) (e ∙ ap length p)
+
+        pub started-waits : (w a : List ℕ) → b ≡ false → w ≡ allBytes (replicate (n * n) 0) ++ drop (8 * (n * n)) work → a ≡ answerBytes (frameOf still) ++ drop 22 answer
+            → Started rows costs τ work answer r c 0 0 w a
+        started-waits w a f u v = over 0 w a (λ allowance. entered-given allowance still (replicate (square rows) 0) w a faultless (waiting allowance) bytes v)
+          where
+            none : (l : List ℕ) → Ring (waits (numbersOf rows)) (length (numbersOf rows)) τ l → ⊥
+            none = subst (λ (z : List ℕ). (l : List ℕ) → Ring (waits z) (length z) τ l → ⊥) p (through-none (waits r) (length r) τ b R f)
+
+            waiting : (allowance : ℕ) → OnNumbers rows costs τ allowance (Decided still) (replicate (square rows) 0)
+            waiting allowance = decide-waits (numbersOf rows) (numbersOf costs) τ x (subst (λ (z : List ℕ). MaskOf (InX (waits z) (length z) τ) x) p X) (replicate (square rows) 0)
+                (subst (λ (z : ℕ). Faultless (numbersOf rows) (numbersOf costs) τ z) (sym (length-replicate (square rows) 0)) faultless) (λ i l. zeros (square rows) i) allowance none
+
+            bytes : w ≡ allBytes (replicate (square rows) 0) ++ drop (8 * length {A = ℕ} (replicate (square rows) 0)) work
+            bytes =
+                u ∙ ap (λ (z : ℕ). allBytes (replicate z 0) ++ drop (8 * z) work) places
+                ∙ ap (λ (z : ℕ). allBytes (replicate (square rows) 0) ++ drop (8 * z) work) (sym (length-replicate (square rows) 0))
+
+        pub started-ahead : b ≡ true → Started rows costs τ work answer r c 0 x work answer
+        started-ahead f = ahead x p q (subst (λ (z : ℕ). Faultless r c τ (z * z)) e F) X (subst (RingThrough (waits r) (length r) τ) f R)
+
+    -- ---- behind the start
+
+    pub entered-opened : (r c : List ℕ) (k x allowance : ℕ) (flows w a w′ a′ : List ℕ) → Started rows costs τ work answer r c k x w a → x ≢ 0
+        → flows ≡ replicate (length r * length r) 0 → Opened r c τ allowance flows w a w′ a′ → Entered rows costs τ allowance work answer 0 w′ a′
+    entered-opened r c k x allowance flows w a w′ a′ (over j v b E) ne z O = absurd (ne refl)
+    entered-opened r c k x allowance flows w a w′ a′ (ahead y p q F X R) ne z O =
+        entered-given allowance (O .decision) (O .after) w′ a′ (on-numbers r c p q (λ a b. Faultless a b τ (length a * length a)) F)
+        (on-numbers r c p q (λ a b. Called a b τ allowance (replicate (length a * length a) 0) (Decided (O .decision)) (O .after))
+        (subst (λ (l : List ℕ). Called r c τ allowance l (Decided (O .decision)) (O .after)) z (O .called))) (O .flowBytes) (O .frame)
+
+-- ---- what a start leaves
+
+module _ (rows costs : List ℕ) (τ : ℕ) (work answer r c : List ℕ) where
+  pub started-over : (k x : ℕ) (w a : List ℕ) → Started rows costs τ work answer r c k x w a → x ≡ 0 → (allowance : ℕ) → Entered rows costs τ allowance work answer k w a
+  started-over k x w a (over j v b E) e allowance = E allowance
+  started-over k x w a (ahead y p q F X R) e allowance =
+      absurd (rest-end y τ e (X .complete τ (record { out = reaches-here (waits r) (length r) τ; home = reaches-here (waits r) (length r) τ })))
+
+  pub started-same : (k x : ℕ) (w a : List ℕ) → Started rows costs τ work answer r c k x w a → x ≢ 0 → (w ≡ work) × (a ≡ answer)
+  started-same k x w a (over j v b E) ne = absurd (ne refl)
+  started-same k x w a (ahead y p q F X R) ne = (refl, refl)
+
+  pub started-ringed : (k x : ℕ) (w a flows : List ℕ) → Started rows costs τ work answer r c k x w a → x ≢ 0 → flows ≡ replicate (length r * length r) 0 → Ringed r c τ x flows
+  started-ringed k x w a flows (over j v b E) ne z = absurd (ne refl)
+  started-ringed k x w a flows (ahead y p q F X R) ne z = record {
+    faultless = subst (Faultless r c τ) (sym (ap length z ∙ length-replicate (length r * length r) 0)) F;
+    exact = X;
+    ring = R;
+    blank = λ i l. ap (λ (f : List ℕ). getD f i 0) z ∙ zeros (length r * length r) i;
+  }
+
+-- what `give` leaves, where f is the answer frame
+pub given : (d : Decision) (f : Frame) (answer a : List ℕ) → a ≡ answerBytes f ++ drop 22 answer → f ≡ frameOf d → a ≡ answerBytes (frameOf d) ++ drop 22 answer
+given d f answer a p q = p ∙ ap (λ (z : Frame). answerBytes z ++ drop 22 answer) q

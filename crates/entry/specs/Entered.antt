@@ -2,23 +2,17 @@
 -- 8 a number, most significant first. The answer is the 22 bytes of an answer frame in a lent list, and the call returns the refusal number or 0.").
 -- rows, costs, work and answer are lists of bytes, τ is the timed-out job (the document's T).
 --
---   frameOf d                                                   the answer frame of a decision: its outcome by the document's number, price, rounds, victims
 --   Entered rows costs τ allowance work answer k work′ answer′  the call returns k, and leaves work′ and answer′ in the lent lists
 use mathlib.Core.List.{List, _++_}
 use Prim.Native.Nat.{ℕ, _*_}
 use lib.ListN.{length, drop, replicate}
-use Rattle.frames.specs.declared.Answer.{Answer}
-use Rattle.frames.specs.Records.{answered}
 use Rattle.codec.specs.Frame.{answerBytes}
 use Rattle.lists.specs.Numbers.{numbersOf, allBytes}
 use Rattle.verdict.specs.declared.Decision.{Decision}
 use Rattle.verdict.specs.declared.Answer.the-variants.{Decided}
-use Rattle.verdict.specs.Answers.{number}
 use Rattle.verdict.specs.Called.{Called}
+use Rattle.reply.specs.Replied.{frameOf}
 use Rattle.entry.specs.Faults.{EntryRefusal, EntryFaultless}
-
-abbrev pub frameOf : Decision → Answer
-frameOf d = answered (number (d .outcome)) (d .price) (d .rounds) (d .victims)
 
 pub data Entered (rows costs : List ℕ) (τ allowance : ℕ) (work answer : List ℕ) : ℕ → List ℕ → List ℕ → Type 0 where
   -- "A refusal returns its number; all lent lists stay unwritten."

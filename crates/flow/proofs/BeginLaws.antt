@@ -1,4 +1,4 @@
--- The document's network before the first round: what is accepted frames it, the cleared lists hold no flow, and the masks of the start show its arcs.
+-- The document's network before the first round: what is accepted frames it, lists of zeros hold no flow, and the masks of the start show its arcs.
 -- Assumes nothing.
 --
 --   arcOf, jobOf, wideOf     the arcs, the jobs' capacities and the waits' capacity of the document's network
@@ -27,11 +27,11 @@ use Rattle.graph.specs.Waits.{waits}
 use Rattle.network.specs.Rooms.{Room, step}
 use Rattle.network.specs.Arcs.{inn, out, within, total, jobCapacity, net}
 use Rattle.network.proofs.PushLaws.{room-at}
-use Rattle.network.proofs.ArcLaws.{net-job, net-in, net-wait, net-out}
+use Rattle.network.proofs.ArcLaws.{net-job, net-in, net-wait, net-out, net-unused}
 use Rattle.search.specs.Masks.{at, masked}
 use Rattle.search.proofs.MaskSteps.{step-parts, step-made}
 use Rattle.flow.specs.Accepted.{costOf, Accepted}
-use Rattle.flow.specs.Inside.{Cleared, startMask, Begun}
+use Rattle.flow.specs.Inside.{startMask, Begun}
 use Rattle.flow.proofs.HeldLaws.{Framed, Held}
 use Rattle.flow.proofs.ShownLaws.{Shown}
 use Rattle.flow.proofs.StartLaws.{start-outside, start-out, start-own, start-sink}
@@ -113,24 +113,18 @@ module _ (rows costs : List ℕ) (τ x : ℕ) (F : List ℕ) (A : Accepted rows 
 
   -- ---- no flow
 
-  pub held-start : (F₁ G : List ℕ) → Cleared (length rows) F F₁ → length G ≡ 64 → ((u : ℕ) → at G u ≡ 0)
-      → Held (arcOf rows x) (jobOf costs τ x) (wideOf costs x) (length costs) (netOf rows costs τ x) F₁ G
-  held-start F₁ G C lg zero = record {
-    size = omega (arith, ap (λ (z : ℕ). z * z) (A .priced), A .size, C .size);
+  pub held-start : (G : List ℕ) → length G ≡ 64 → ((u : ℕ) → at G u ≡ 0)
+      → Held (arcOf rows x) (jobOf costs τ x) (wideOf costs x) (length costs) (netOf rows costs τ x) F G
+  held-start G lg zero = record {
+    size = omega (arith, ap (λ (z : ℕ). z * z) (A .priced), A .size);
     thru = lg;
     pair = λ a b la lb. refl;
-    wait = λ u v lu lv. empty u v lu lv ∙ sym (unused u v lu (tested (arcOf rows x u v)));
+    wait = λ u v lu lv. empty u v lu lv ∙ sym (net-unused (arcOf rows x) (jobOf costs τ x) (wideOf costs x) u v (arc-apart u lu));
     through = λ u l. zero u ∙ sym (net-wait (arcOf rows x) (jobOf costs τ x) (wideOf costs x) u u ∙ gate-off (arcOf rows x u u) (wideOf costs x) (arc-apart u l));
   }
     where
-      empty : (u v : ℕ) → u < length costs → v < length costs → at F₁ (u * length costs + v) ≡ 0
-      empty u v lu lv = C .none (u * length costs + v) (omega (arith, digits-lt lu lv, ap (λ (z : ℕ). z * z) (A .priced)))
-
-      unused : (u v : ℕ) → u < length costs → T (arcOf rows x u v) ⊎ (T (arcOf rows x u v) → ⊥) → gate (arcOf rows x u v) (netOf rows costs τ x (inn v) (out u)) ≡ 0
-      unused u v l (inr t) = gate-off (arcOf rows x u v) (netOf rows costs τ x (inn v) (out u)) t
-      unused u v l (inl t) =
-          gate-on (arcOf rows x u v) (netOf rows costs τ x (inn v) (out u)) t
-          ∙ net-in (arcOf rows x) (jobOf costs τ x) (wideOf costs x) v (out u) (λ e. arc-apart u l (subst (λ (z : ℕ). T (arcOf rows x u z)) (let q : v ≡ u = omega arith in q) t))
+      empty : (u v : ℕ) → u < length costs → v < length costs → at F (u * length costs + v) ≡ 0
+      empty u v lu lv = A .blank (u * length costs + v) (omega (arith, digits-lt lu lv, ap (λ (z : ℕ). z * z) (A .priced)))
 
   -- ---- the masks
 

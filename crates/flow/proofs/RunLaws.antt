@@ -33,7 +33,7 @@ use Rattle.side.specs.Home.{Sidable, Sided}
 use Rattle.flow.specs.Accepted.{costOf, Accepted}
 use Rattle.flow.specs.Flowed.{Ends, Flowed}
 use Rattle.flow.specs.Flowed.Ends.{settled, unfinished}
-use Rattle.flow.specs.Inside.{Costed, Cleared, Beginnable, Begun}
+use Rattle.flow.specs.Inside.{Costed, Beginnable, Begun}
 use Rattle.flow.proofs.HeldLaws.{Held}
 use Rattle.flow.proofs.ShownLaws.{Shown}
 use Rattle.flow.proofs.NarrowLaws.{narrow-taken, narrow-stuck, narrow-side}
@@ -80,29 +80,15 @@ accepted-beginnable rows costs τ x F S A L eL eS = record {
   blank = λ a. ap (λ (z : List ℕ). at z a) eS ∙ zeros L a;
 }
 
--- what is accepted with one work list is accepted with another of its length
-pub accepted-same : (rows costs : List ℕ) (τ x : ℕ) (F F′ : List ℕ) → Accepted rows costs τ x F → length F′ ≡ length F → Accepted rows costs τ x F′
-accepted-same rows costs τ x F F′ A e = record {
-  jobs = A .jobs;
-  apart = A .apart;
-  priced = A .priced;
-  positive = A .positive;
-  bounded = A .bounded;
-  job = A .job;
-  member = A .member;
-  members = A .members;
-  size = omega (arith, A .size);
-}
-
-pub running-start : (rows costs : List ℕ) (τ x allowance wide : ℕ) (before F G S qs ps : List ℕ) (e sum : ℕ) → Accepted rows costs τ x before
-    → sum ≡ total (length costs) (has x) (costOf costs) → wide ≡ sum + 1 → Cleared (length rows) before F → (L : ℕ) → L ≡ 64 → G ≡ replicate L 0 → Begun rows τ x S
+pub running-start : (rows costs : List ℕ) (τ x allowance wide : ℕ) (F G S qs ps : List ℕ) (e sum : ℕ) → Accepted rows costs τ x F
+    → sum ≡ total (length costs) (has x) (costOf costs) → wide ≡ sum + 1 → (L : ℕ) → L ≡ 64 → G ≡ replicate L 0 → Begun rows τ x S
     → (qs₀ ps₀ : List ℕ) → Sought S (2 * τ + 1) (2 * τ) qs₀ ps₀ qs ps e → Running rows costs τ x allowance wide F F G S qs ps 0 e
-running-start rows costs τ x allowance wide before F G S qs ps e sum A es ew C L eL eG B qs₀ ps₀ Q = record {
-  accepted = accepted-same rows costs τ x before F A (C .size);
+running-start rows costs τ x allowance wide F G S qs ps e sum A es ew L eL eG B qs₀ ps₀ Q = record {
+  accepted = A;
   width = omega arith;
   room = netOf rows costs τ x;
-  held = held-start rows costs τ x before A F G C (ap length eG ∙ length-replicate L 0 ∙ eL) (λ u. ap (λ (g : List ℕ). at g u) eG ∙ zeros L u);
-  shown = shown-start rows costs τ x before A S B;
+  held = held-start rows costs τ x F A G (ap length eG ∙ length-replicate L 0 ∙ eL) (λ u. ap (λ (g : List ℕ). at g u) eG ∙ zeros L u);
+  shown = shown-start rows costs τ x F A S B;
   made = none (λ a b la lb. refl);
   limit = zero-le;
   size = refl;
@@ -195,26 +181,26 @@ module _ (rows costs : List ℕ) (τ x allowance wide : ℕ) (before F G S qs ps
   pub running-sidable : Sidable S τ x
   running-sidable = record { size = R .shown .size; job = running-job; member = R .accepted .member; only = λ a b la lb t. R .shown .only a b la lb t .0 }
 
-  -- the statement over any number n that is the number of jobs, from the list before it was cleared
-  ending : (old : List ℕ) → Cleared (length rows) old before → (n : ℕ) → length costs ≡ n → n ≡ length rows → (left : Bool) (ins outs : ℕ)
-      → Ends (R .room) (length costs) τ k allowance left ins outs → Flowed rows costs τ x allowance old F k left ins outs
+  -- the statement over any number n that is the number of jobs
+  ending : (n : ℕ) → length costs ≡ n → n ≡ length rows → (left : Bool) (ins outs : ℕ)
+      → Ends (R .room) (length costs) τ k allowance left ins outs → Flowed rows costs τ x allowance before F k left ins outs
   unfolding capacity
-  ending old C n en er left ins outs E = record {
+  ending n en er left ins outs E = record {
     room = R .room;
     made = subst (λ (z : ℕ). Rounds (2 * z) (out τ) (inn τ) (capacity (waits rows) (has x) z τ (costOf costs)) k (R .room)) (en ∙ er) (R .made);
     limit = R .limit;
     ends = subst (λ (z : ℕ). Ends (R .room) z τ k allowance left ins outs) (en ∙ er) E;
     flow = subst (λ (z : ℕ). (u v : ℕ) → u < z → v < z → getD F (u * z + v) 0 ≡ gate (within (waits rows) (has x) u v) (R .room (inn v) (out u))) (en ∙ er) (R .held .wait);
-    size = R .size ∙ C .size;
-    rest = λ i l. R .rest i (omega (arith, ap (λ (z : ℕ). z * z) (en ∙ er))) ∙ C .rest i l;
+    size = R .size;
+    rest = λ i l. R .rest i (omega (arith, ap (λ (z : ℕ). z * z) (en ∙ er)));
   }
 
-  pub running-settled : (old : List ℕ) → Cleared (length rows) old before → e ≡ 0 → (ins outs : ℕ) → Sided S τ ins outs → Flowed rows costs τ x allowance old F k false ins outs
-  running-settled old C z ins outs D = ending old C (length costs) refl (R .accepted .priced) false ins outs
+  pub running-settled : e ≡ 0 → (ins outs : ℕ) → Sided S τ ins outs → Flowed rows costs τ x allowance before F k false ins outs
+  running-settled z ins outs D = ending (length costs) refl (R .accepted .priced) false ins outs
       (settled
       (narrow-stuck (R .room) (length costs) x S few members (R .shown) (out τ) (inn τ) source (subst (λ (s : ℕ). Stuck 128 s (inn τ) (masked S)) (sym (suc-eq-add-one (2 * τ))) (R .sought .none z)))
       (narrow-side (R .room) (length costs) x S few members (R .shown) τ (accepted-job rows costs τ x before (R .accepted)) inn (λ u. omega arith) ins (D .inns))
       (narrow-side (R .room) (length costs) x S few members (R .shown) τ (accepted-job rows costs τ x before (R .accepted)) out (λ u. omega arith) outs (D .outer)))
 
-  pub running-left : (old : List ℕ) → Cleared (length rows) old before → e ≢ 0 → k ≡ allowance → Flowed rows costs τ x allowance old F k true 0 0
-  running-left old C some full = ending old C (length costs) refl (R .accepted .priced) true 0 0 (unfinished full (running-reaches some))
+  pub running-left : e ≢ 0 → k ≡ allowance → Flowed rows costs τ x allowance before F k true 0 0
+  running-left some full = ending (length costs) refl (R .accepted .priced) true 0 0 (unfinished full (running-reaches some))

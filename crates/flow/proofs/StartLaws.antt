@@ -3,6 +3,7 @@
 --
 --   Clearing n before i after            the places below i are 0, all others as before
 --   clear-start, clear-turn, clear-end
+--   clear-unique                         two results of `clear` are equal
 --   Beginning rows τ x rest steps        the masks of the jobs that are no more in rest are those of the start, all others 0
 --   begin-start, begin-turn, begin-end
 use mathlib.Core.Path.{_≡_, refl, sym, ap, _∙_, subst}
@@ -11,13 +12,13 @@ use mathlib.Core.Bool.{Bool, not}
 use mathlib.Core.List.{List}
 use Prim.Native.Nat.{ℕ, _+_, _-_, _*_, _/_, _%_, _^_, _<_, _≤_, zero-le}
 use native.Mathlib.Nat.{mul-le-mul}
-use native.Mathlib.Decide.{ℕ-discrete}
+use native.Mathlib.Decide.{ℕ-discrete, decLt}
 use native.Mathlib.Omega.{arith}
 use lib.Bits.{bitAnd}
 use lib.Count.{trailingZeros}
 use lib.Dec.{eqb}
 use lib.ListN.{length, set, length-set}
-use lib.Seq.{getD-set-same, getD-set-other}
+use lib.Seq.{getD-set-same, getD-set-other, ext-getD}
 use Rattle.bits.specs.Mask.{Has, has}
 use Rattle.bits.proofs.Masks.{has-test, test-has}
 use Rattle.bits.proofs.Rest.{Rest, rest-start, rest-end, rest-low, rest-here, rest-below, rest-less, rest-next, rest-gone, rest-cases}
@@ -26,7 +27,8 @@ use Rattle.sums.proofs.TestLaws.{ne-test, test-ne, eqb-on, eqb-off}
 use Rattle.sums.proofs.SumLaws.{gate-on, gate-off}
 use Rattle.network.specs.Rooms.{pick}
 use Rattle.search.specs.Masks.{at}
-use Rattle.flow.specs.Inside.{Cleared, startMask, Beginnable, Begun}
+use Rattle.flow.specs.Cleared.{Cleared}
+use Rattle.flow.specs.Inside.{startMask, Beginnable, Begun}
 
 pub record Clearing (n : ℕ) (before : List ℕ) (i : ℕ) (after : List ℕ) : Type 0 where
   pub long : n * n ≤ length before
@@ -55,6 +57,13 @@ clear-turn n before i after C l = record {
 
 pub clear-end : (n : ℕ) (before : List ℕ) (i : ℕ) (after : List ℕ) → Clearing n before i after → n * n ≤ i → Cleared n before after
 clear-end n before i after C l = record { size = C .size; none = λ j m. C .none j (omega arith); rest = λ j m. C .rest j (omega (arith, C .done)) }
+
+pub clear-unique : (n : ℕ) (before a b : List ℕ) → Cleared n before a → Cleared n before b → a ≡ b
+clear-unique n before a b A B = ext-getD 0 a b (A .size ∙ sym (B .size)) (λ i l. go i (decLt i (n * n)))
+  where
+    go : (i : ℕ) → Dec (i < n * n) → at a i ≡ at b i
+    go i (yes m) = A .none i m ∙ sym (B .none i m)
+    go i (no m) = A .rest i (omega arith) ∙ sym (B .rest i (omega arith))
 
 -- ---- the masks of the start, node by node
 

@@ -29,3 +29,5 @@ pub record Accepted (rows costs : List ℕ) (τ x : ℕ) (work : List ℕ) : Typ
   pub members : (u : ℕ) → Has x u → u < length rows
   -- n × n places for the flows
   pub size : length rows * length rows ≤ length work
+  -- which are 0
+  pub blank : (i : ℕ) → i < length rows * length rows → getD work i 0 ≡ 0

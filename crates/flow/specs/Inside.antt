@@ -1,7 +1,6 @@
--- What the inner functions of this layer promise: the sum of the costs of X, the work list before the first round, and the masks of the steps with room then.
+-- What the inner functions of this layer promise: the sum of the costs of X, and the masks of the steps with room then.
 --
 --   Costed costs x                what `total_cost` is given: x has jobs of the list, and their costs add up to a number of 64 bits
---   Cleared n before after        the first n × n places are 0, all others as before
 --   startMask rows τ x a          the mask of the steps from node a before the first round: from an out-node to the jobs of X for which its job waits,
 --                                 from an in-node to the out-node of its job, unless that is T; none from nodes of jobs outside X
 --   Beginnable rows x steps       what `begin` is given: 128 masks that are 0, and x has jobs of the list
@@ -23,11 +22,6 @@ use Rattle.flow.specs.Accepted.{costOf}
 pub record Costed (costs : List ℕ) (x : ℕ) : Type 0 where
   pub members : (u : ℕ) → Has x u → u < length costs
   pub bounded : total (length costs) (has x) (costOf costs) < 2 ^ 64
-
-pub record Cleared (n : ℕ) (before after : List ℕ) : Type 0 where
-  pub size : length after ≡ length before
-  pub none : (i : ℕ) → i < n * n → at after i ≡ 0
-  pub rest : (i : ℕ) → n * n ≤ i → at after i ≡ at before i
 
 unfoldable pub startMask : List ℕ → ℕ → ℕ → ℕ → ℕ
 unfolding has

@@ -1,4 +1,5 @@
 pub mod Accepted
+pub mod Cleared
 pub mod Flowed
 pub mod Inflow
 pub mod Inside

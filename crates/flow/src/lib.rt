@@ -1,4 +1,4 @@
-// Rounds against an allowance: the flow layer's written statement is `Flowed`, and `inflow` adds up what flows into one job.
+// Rounds against an allowance: the flow layer's written statement is `Flowed`. `clear` zeroes the work list for it, and `inflow` adds up what flows into one job.
 // The network is that of the document, over the rows, the costs, T (here t) and the mask x of X; it is never written down.
 // Kept during the rounds: the flow on the waits in the lent work list, the flow through each job, and for each node the mask of its steps with room.
 ghost use mathlib.Core.Path.{_≡_};
@@ -9,7 +9,8 @@ ghost use Rattle.network.specs.Arcs.{total};
 ghost use Rattle.flow.specs.Accepted.{costOf, Accepted};
 ghost use Rattle.flow.specs.Flowed.{Flowed};
 ghost use Rattle.flow.specs.Inflow.{inflowOf, Summable};
-ghost use Rattle.flow.specs.Inside.{Costed, Cleared, Beginnable, Begun};
+ghost use Rattle.flow.specs.Cleared.{Cleared};
+ghost use Rattle.flow.specs.Inside.{Costed, Beginnable, Begun};
 use push::amount;
 use push::push;
 use search::search;
@@ -38,7 +39,7 @@ fn total_cost(costs: &[u64], x: u64) -> u64
 }
 
 // Zeroes the first n × n places.
-fn clear(work: &mut [u64], n: usize)
+pub fn clear(work: &mut [u64], n: usize)
     requires { ⌜ (n ≤ 64) × (n * n ≤ length (now work)) ⌝ }
     ensures { λ _. ⌜ Cleared n (now (work .entry)) (now (work .exit)) ⌝ }
 {
@@ -79,7 +80,6 @@ pub fn make_rounds(
     ensures { λ r. ⌜ Flowed (now (rows .entry)) (now (costs .entry)) t x allowance (now (work .entry)) (now (work .exit)) (r .rounds) (r .left) (r .ins) (r .outs) ⌝ }
 {
     let wide = total_cost(costs, x) + 1;
-    clear(work, rows.len());
     let mut steps = [0u64; 128];
     begin(rows, t, x, &mut steps);
     let mut thru = [0u64; 64];

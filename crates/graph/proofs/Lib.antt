@@ -1,6 +1,6 @@
 pub mod WaitLaws
 pub mod SeenLaws
-pub mod ColumnLaws
+pub mod GatherLaws
 pub mod RingLaws
 pub mod PoolLaws
 pub mod Unique

@@ -1,59 +1,125 @@
 -- X and the rings through T.
 -- Assumes nothing.
 --
---   columns-jobs, columns-home   the rows turned round are rows of 64 jobs; to reach along them is to be reached
---   x-mask                       what both T reaches and reaches T is X
+--   Homing                       x has jobs that T reaches and that reach T; the invariant of `on_rings`
+--   home-start, home-gatherable, home-grow, home-small, home-turn, home-end
 --   ring-some, ring-none         a ring through T passes a job of X that T waits for
 --   Lies u p                     job u stands in the list p
 --   x-lies, lies-x               X is "T with all jobs that lie on a ring through T"
 use mathlib.Core.Path.{_≡_, refl, sym, _∙_, subst}
-use mathlib.Core.Logic.{_⊎_, inl, inr}
+use mathlib.Core.Logic.{_⊎_, inl, inr, ⊎-elim, _≢_}
 use mathlib.Core.Bool.{Bool}
 use mathlib.Core.List.{List, [], _∷_}
-use Prim.Native.Nat.{ℕ, _^_, _<_, zero-le, suc-le-suc}
+use Prim.Native.Nat.{ℕ, _+_, _*_, _^_, _<_, zero-le, suc-le-suc}
 use native.Mathlib.Omega.{arith}
 use native.Mathlib.Decide.{ℕ-discrete}
-use lib.Bits.{bitAnd, and-lt}
+use lib.Bits.{bitAnd, bitOr, bitXor, and-lt, or-lt}
 use lib.Count.{trailingZeros}
 use lib.Dec.{T}
+use lib.Pow.{pow-lt}
 use lib.ListN.{length, getD}
 use Rattle.bits.specs.Mask.{bit, Has, MaskOf}
-use Rattle.bits.proofs.Digits.{bit-zero}
-use Rattle.bits.proofs.Masks.{has-and, and-has, mask-and, mask-same}
+use Rattle.bits.proofs.Digits.{bit-zero, bit-pow-same}
+use Rattle.bits.proofs.Masks.{has-and, and-has, has-or-l, has-or-cases, has-pow-cases, has-xor, xor-has, or-grows}
 use Rattle.bits.proofs.Lowest.{trailing-has}
+use Rattle.bits.proofs.Rest.{rest-end}
 use Rattle.walks.specs.Walk.{Walk, Reaches}
-use Rattle.walks.proofs.ReachLaws.{reaches-here, reaches-step, reaches-on, reaches-trans, reaches-in, reaches-turned}
+use Rattle.walks.proofs.ReachLaws.{reaches-here, reaches-step, reaches-on, reaches-in}
 use Rattle.graph.specs.Waits.{waits, Jobs}
 use Rattle.graph.specs.Rings.{Ring, InX}
-use Rattle.graph.specs.Turned.{Turned}
-use Rattle.graph.proofs.WaitLaws.{waits-has, has-waits, waits-below}
+use Rattle.graph.specs.Hits.{Gatherable, Hits}
+use Rattle.graph.proofs.WaitLaws.{waits-has, has-waits}
 
 -- ---- the way back
 
-module _ (rows columns : List ℕ) (J : Jobs rows) (K : Turned rows columns) where
-  -- in the columns job i waits for job j where job j waits for job i
-  turned-wait : (i j : ℕ) → T (waits columns i j) → T (waits rows j i)
-  turned-wait i j t = K .column i (subst (λ (z : ℕ). i < z) (K .size) (waits-below columns i j t)) .sound j (waits-has columns i j t)
+-- x has only jobs that T reaches and that reach T, among them T
+pub record Homing (rows : List ℕ) (t away x : ℕ) : Type 0 where
+  pub jobs : Jobs rows
+  pub job : t < length rows
+  pub reached : MaskOf (Reaches (waits rows) (length rows) t) away
+  pub small : x < 2 ^ 64
+  pub part : (u : ℕ) → Has x u → Has away u
+  pub home : (u : ℕ) → Has x u → Reaches (waits rows) (length rows) u t
+  pub sink : Has x t
 
-  wait-turned : (j i : ℕ) → T (waits rows j i) → T (waits columns i j)
-  wait-turned j i t = has-waits columns i j (K .column i (omega (arith, J .few, J .known j i t)) .complete j t)
+-- what T reaches are jobs of the list
+away-job : (rows : List ℕ) (t away : ℕ) → t < length rows → MaskOf (Reaches (waits rows) (length rows) t) away → (u : ℕ) → Has away u → u < length rows
+away-job rows t away l A u h = reaches-in (waits rows) (length rows) t u l (A .sound u h)
 
-  pub columns-jobs : Jobs columns
-  columns-jobs = record {
-    few = omega (arith, K .size);
-    known = λ i j t. omega (arith, K .size, J .few, waits-below rows j i (turned-wait i j t));
-  }
+pub home-start : (rows : List ℕ) (t away b : ℕ) → Jobs rows → t < length rows → MaskOf (Reaches (waits rows) (length rows) t) away → b ≡ 2 ^ t → Homing rows t away b
+home-start rows t away b G l A e = record {
+  jobs = G;
+  job = l;
+  reached = A;
+  small = subst (λ (z : ℕ). z < 2 ^ 64) (sym e) (pow-lt {i = t} {j = 64} (omega (arith, G .few)));
+  part = λ u h. subst (Has away) (sym (only u h)) (A .complete t (reaches-here (waits rows) (length rows) t));
+  home = λ u h. subst (λ (z : ℕ). Reaches (waits rows) (length rows) z t) (sym (only u h)) (reaches-here (waits rows) (length rows) t);
+  sink = subst (λ (z : ℕ). Has z t) (sym e) (bit-pow-same t);
+}
+  where
+    only : (u : ℕ) → Has b u → u ≡ t
+    only u h = has-pow-cases t u (subst (λ (z : ℕ). Has z u) e h)
 
-  pub columns-home : (t m : ℕ) → MaskOf (Reaches (waits columns) (length columns) t) m → MaskOf (λ (u : ℕ). Reaches (waits rows) (length rows) u t) m
-  columns-home t m = λ p. mask-same _ _ m p
-      (λ u r. reaches-turned (waits columns) (waits rows) (length columns) (length rows) (λ a b s. (turned-wait a b s, J .known b a (turned-wait a b s))) t u r)
-      (λ u r. reaches-turned (waits rows) (waits columns) (length rows) (length columns) (λ a b s. (wait-turned a b s, omega (arith, K .size, J .few, waits-below rows a b s))) u t r)
+module _ (rows : List ℕ) (t away x : ℕ) (H : Homing rows t away x) where
+  -- the jobs that are looked at: what T reaches, without x
+  left : (u : ℕ) → Has (bitXor away x) u → Has away u × (Has x u → ⊥)
+  left u h = has-xor away x u (H .part u) h
 
-  pub x-mask : (t a b : ℕ) → MaskOf (Reaches (waits rows) (length rows) t) a → MaskOf (Reaches (waits columns) (length columns) t) b
-      → MaskOf (InX (waits rows) (length rows) t) (bitAnd a b)
-  x-mask t a b p q = mask-same _ _ (bitAnd a b) (mask-and _ _ a b p (columns-home t b q))
-      (λ u h. record { out = h .0; home = h .1 })
-      (λ u h. (h .out, h .home))
+  pub home-gatherable : Gatherable rows 1 0 (bitXor away x)
+  home-gatherable = record { place = λ u h. let l = away-job rows t away (H .job) (H .reached) u (left u h .0) in omega arith }
+
+  module _ (fresh : ℕ) (F : MaskOf (Hits rows 1 0 (bitXor away x) x) fresh) where
+    -- whoever is fresh waits for one of x
+    wait : (u v : ℕ) → Has (getD rows (1 * u + 0) 0) v → T (waits rows u v)
+    wait u v h = let e : 1 * u + 0 ≡ u = omega arith in has-waits rows u v (subst (λ (z : ℕ). Has (getD rows z 0) v) e h)
+
+    pub home-grow : fresh ≢ 0 → x < bitOr x fresh
+    home-grow ne =
+        let h = trailing-has 64 fresh (F .small) ne .0 in
+        or-grows x fresh (trailingZeros 64 fresh) (left (trailingZeros 64 fresh) (F .sound (trailingZeros 64 fresh) h .member) .1) h
+
+    pub home-small : bitOr x fresh < 2 ^ 64
+    home-small = or-lt 64 x fresh (H .small) (F .small)
+
+    pub home-turn : Homing rows t away (bitOr x fresh)
+    home-turn = record {
+      jobs = H .jobs;
+      job = H .job;
+      reached = H .reached;
+      small = home-small;
+      part = λ u h. ⊎-elim (H .part u) (λ k. left u (F .sound u k .member) .0) (has-or-cases x fresh u h);
+      home = λ u h. ⊎-elim (H .home u) (far u) (has-or-cases x fresh u h);
+      sink = has-or-l x fresh t (H .sink);
+    }
+      where
+        far : (u : ℕ) → Has fresh u → Reaches (waits rows) (length rows) u t
+        far u k =
+            let m = F .sound u k in
+            let w = wait u (m .other) (m .named) in
+            reaches-step (waits rows) (length rows) u (m .other) t (H .jobs .known u (m .other) w) w (H .home (m .other) (m .hit))
+
+    pub home-end : fresh ≡ 0 → MaskOf (InX (waits rows) (length rows) t) x
+    home-end z = record {
+      small = H .small;
+      sound = λ u h. record { out = H .reached .sound u (H .part u h); home = H .home u h };
+      complete = λ u m. back u (m .home .path) (m .out) (m .home .walk);
+    }
+      where
+        -- on a walk to T from what T reaches, every job is in x
+        back : (u : ℕ) (p : List ℕ) → Reaches (waits rows) (length rows) t u → Walk (waits rows) (length rows) u t p → Has x u
+        back u [] r e = subst (Has x) (sym e) (H .sink)
+        back u (v ∷ p) r k = go (back v p (reaches-on (waits rows) (length rows) t u v r (k .1) (k .0)) (k .2)) (ℕ-discrete (bit x u) 1)
+          where
+            go : Has x v → Dec (bit x u ≡ 1) → Has x u
+            go h (yes q) = q
+            go h (no q) =
+                let e : u ≡ 1 * u + 0 = omega arith in
+                absurd (rest-end fresh u z (F .complete u (record {
+                  member = xor-has away x u (H .reached .complete u r) q;
+                  other = v;
+                  named = subst (λ (i : ℕ). Has (getD rows i 0) v) e (waits-has rows u v (k .1));
+                  hit = h;
+                })))
 
 -- ---- a ring through T
 

@@ -1,15 +1,14 @@
 -- Two results that meet the statement of a public function are equal.
 -- Assumes nothing.
 --
---   rows-known-unique, reach-unique, turn-unique, on-rings-unique, ring-through-unique, row-unique   of the function of that name
+--   rows-known-unique, reach-unique, gather-unique, on-rings-unique, ring-through-unique, row-unique   of the function of that name
 --   reach-away                                                                    the jobs of `reach` are those a definite number of waits away
-use mathlib.Core.Path.{_≡_, refl, sym, _∙_}
+use mathlib.Core.Path.{_≡_, refl}
 use mathlib.Core.Bool.{Bool, true, false}
 use mathlib.Core.List.{List}
 use Prim.Native.Nat.{ℕ, _<_}
 use native.Mathlib.Omega.{arith}
-use lib.ListN.{length, getD}
-use lib.Seq.{ext-getD}
+use lib.ListN.{length}
 use Rattle.bits.specs.Mask.{Has, MaskOf}
 use Rattle.bits.proofs.Masks.{mask-unique}
 use Rattle.walks.specs.Walk.{Reaches, Away}
@@ -18,7 +17,7 @@ use Rattle.graph.specs.Waits.{waits, Known}
 use Rattle.graph.specs.Waits.Known.{all, stray}
 use Rattle.graph.specs.Rings.{InX, RingThrough}
 use Rattle.graph.specs.Rings.RingThrough.{some, none}
-use Rattle.graph.specs.Turned.{Turned}
+use Rattle.graph.specs.Hits.{Hits}
 use Rattle.graph.specs.Pools.{WaitsFor}
 
 pub rows-known-unique : (rows : List ℕ) (a b : Bool) → Known rows a → Known rows b → a ≡ b
@@ -35,8 +34,8 @@ pub reach-away : (rows : List ℕ) (from m : ℕ) → from < length rows → Mas
     → (v : ℕ) → Has m v → (k : ℕ) × (k < length rows) × Away (waits rows) (length rows) from v k
 reach-away rows from m l M v h = reaches-away (waits rows) (length rows) from v l (M .sound v h)
 
-pub turn-unique : (rows a b : List ℕ) → Turned rows a → Turned rows b → a ≡ b
-turn-unique rows a b p q = ext-getD 0 a b (p .size ∙ sym (q .size)) (λ i l. mask-unique _ _ _ (p .column i (omega (arith, p .size))) (q .column i (omega (arith, p .size))))
+pub gather-unique : (masks : List ℕ) (k first jobs marked a b : ℕ) → MaskOf (Hits masks k first jobs marked) a → MaskOf (Hits masks k first jobs marked) b → a ≡ b
+gather-unique masks k first jobs marked a b = mask-unique _ a b
 
 pub on-rings-unique : (rows : List ℕ) (t a b : ℕ) → MaskOf (InX (waits rows) (length rows) t) a → MaskOf (InX (waits rows) (length rows) t) b → a ≡ b
 on-rings-unique rows t a b = mask-unique _ a b

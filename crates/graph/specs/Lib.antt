@@ -1,4 +1,4 @@
 pub mod Waits
 pub mod Rings
-pub mod Turned
+pub mod Hits
 pub mod Pools

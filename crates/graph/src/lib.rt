@@ -1,7 +1,7 @@
 // The graph layer: who waits for whom, whom a job reaches, and the rings through a job.
 //
-// `rows_known` says whether the rows name only jobs that are there, `reach` gives exactly the jobs that a job reaches along waits, `turn` for each job exactly those that wait for it,
-// `on_rings` exactly the document's X, `ring_through` whether a ring passes through a job,
+// `rows_known` says whether the rows name only jobs that are there, `reach` gives exactly the jobs that a job reaches along waits,
+// `gather` exactly those of a set of jobs whose masks name a marked job, `on_rings` exactly the document's X, `ring_through` whether a ring passes through a job,
 // and `row` exactly the jobs that a job waits for in a table of pool states.
 ghost use Prim.Native.Nat.{_<_, _≤_};
 ghost use lib.ListN.{length};
@@ -9,7 +9,7 @@ ghost use Rattle.bits.specs.Mask.{MaskOf};
 ghost use Rattle.walks.specs.Walk.{Reaches};
 ghost use Rattle.graph.specs.Waits.{waits, Jobs, Known};
 ghost use Rattle.graph.specs.Rings.{InX, RingThrough};
-ghost use Rattle.graph.specs.Turned.{Masks, Added, Turned};
+ghost use Rattle.graph.specs.Hits.{Gatherable, Hits};
 ghost use Rattle.graph.specs.Pools.{Table, ActiveAt, WaitsFor};
 
 // Whether no row names a job past the end of the list.
@@ -43,40 +43,36 @@ pub fn reach(rows: &[u64], from: usize) -> u64
     seen
 }
 
-// Adds job j to the columns of the jobs that its row names.
-fn add_row(row: u64, j: usize, columns: &mut [u64; 64])
-    requires { ⌜ (j < 64) × Masks (now columns) ⌝ }
-    ensures { λ _. ⌜ Added row j (now (columns .entry)) (now (columns .exit)) ⌝ }
+// Those of the jobs whose mask names a marked job. The mask of job u is at place k × u + first.
+pub fn gather(masks: &[u64], k: usize, first: usize, jobs: u64, marked: u64) -> u64
+    requires { ⌜ Gatherable (now masks) k first jobs ⌝ }
+    ensures { λ r. ⌜ MaskOf (Hits (now (masks .entry)) k first jobs marked) r ⌝ }
 {
-    let mut rest = row;
+    let mut rest = jobs;
+    let mut hits = 0u64;
     while rest != 0 {
-        let i = u64::trailing_zeros(rest) as usize;
-        columns[i] = columns[i] | (1u64 << j);
+        let u = u64::trailing_zeros(rest) as usize;
+        if masks[k * u + first] & marked != 0 {
+            hits |= 1u64 << u;
+        }
         rest = rest & (rest - 1);
     }
+    hits
 }
 
-// The rows turned round: for each job the jobs that wait for it.
-pub fn turn(rows: &[u64]) -> [u64; 64]
-    requires { ⌜ length (now rows) ≤ 64 ⌝ }
-    ensures { λ r. ⌜ Turned (now (rows .entry)) r ⌝ }
-{
-    let mut columns = [0u64; 64];
-    let mut j = 0;
-    while j < rows.len() {
-        add_row(rows[j], j, &mut columns);
-        j += 1;
-    }
-    columns
-}
-
-// The document's X: t with all jobs that lie on a ring through it.
+// The document's X: t with all jobs that lie on a ring through it. Of the jobs that t reaches, those that wait for one of x are added until there are none.
 pub fn on_rings(rows: &[u64], t: usize) -> u64
     requires { ⌜ Jobs (now rows) × (t < length (now rows)) ⌝ }
     ensures { λ r. ⌜ MaskOf (InX (waits (now (rows .entry))) (length (now (rows .entry))) t) r ⌝ }
 {
-    let columns = turn(rows);
-    reach(rows, t) & reach(&columns, t)
+    let away = reach(rows, t);
+    let mut x = 1u64 << t;
+    let mut fresh = gather(rows, 1, 0, away ^ x, x);
+    while fresh != 0 {
+        x |= fresh;
+        fresh = gather(rows, 1, 0, away ^ x, x);
+    }
+    x
 }
 
 // Whether a ring passes through t, where x is X.

@@ -6,6 +6,7 @@
 --   Writing              the invariant of both loops: the numbers below i are written
 --   writing-..           its start, a number, what `write_part` asks and leaves, the end
 --   Clearing             the invariant of the loop that zeroes bytes; clearing-start, clearing-turn, clearing-end
+--   zeroed-numbers       the bytes of zeros are zeros
 use mathlib.Core.Path.{_≡_, refl, sym, ap, _∙_}
 use mathlib.Core.Logic.{_⊎_, inl, inr}
 use mathlib.Core.List.{List, [], _∷_, _++_, append-nil}
@@ -201,3 +202,7 @@ clearing-turn k b₀ b i room l C = record {
 
 pub clearing-end : (k : ℕ) (b₀ b : List ℕ) (i : ℕ) → k ≤ i → Clearing k b₀ b i → b ≡ replicate k 0 ++ drop k b₀
 clearing-end k b₀ b i l C = let e : i ≡ k = omega (arith, C .under) in C .done ∙ ap (λ (z : ℕ). replicate z 0 ++ drop z b₀) e
+
+-- bytes that are 0 are those of zeros
+pub zeroed-numbers : (n : ℕ) (b₀ b : List ℕ) → b ≡ replicate (8 * n) 0 ++ drop (8 * n) b₀ → b ≡ allBytes (replicate n 0) ++ drop (8 * n) b₀
+zeroed-numbers n b₀ b e = e ∙ ap (λ (z : List ℕ). z ++ drop (8 * n) b₀) (sym (all-zero n))

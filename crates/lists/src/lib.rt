@@ -1,6 +1,7 @@
 // Lists of numbers as bytes, 8 a number, most significant first: how the C entry takes its lists and gives the flows back.
 //
-// `read_numbers` fills a list of numbers out of bytes, `write_numbers` writes one out; what is behind the written bytes stays as it was.
+// `read_numbers` fills a list of numbers out of bytes, `write_numbers` writes one out, and `write_zeros` a list of zeros;
+// what is behind the written bytes stays as it was.
 use codec::number_at;
 use codec::put_number;
 ghost use mathlib.Core.Path.{_≡_};
@@ -33,6 +34,14 @@ fn clear(bytes: &mut [u8], k: usize)
         bytes[i] = 0;
         i += 1;
     }
+}
+
+// Writes the bytes of so many zeros at the front of a list of bytes.
+pub fn write_zeros(count: usize, bytes: &mut [u8])
+    requires { ⌜ 8 * count ≤ length (now bytes) ⌝ }
+    ensures { λ _. ⌜ now (bytes .exit) ≡ allBytes (replicate count 0) ++ drop (8 * count) (now (bytes .entry)) ⌝ }
+{
+    clear(bytes, 8 * count);
 }
 
 // Whether the 8 numbers from a place on are 0.

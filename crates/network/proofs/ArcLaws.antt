@@ -9,13 +9,14 @@
 --   net-in                nothing else leaves an in-node
 --   net-wait              from u's out-node to v's in-node: the waits' capacity, where there is an arc
 --   net-out               nothing leads from an out-node to an out-node
+--   net-unused            no room back along a wait
 --   crosses R u           job u's arc leads into the set of nodes R
 --   cut-jobs              a cut that no wait crosses holds the capacities of the jobs that cross it
 --   cut-wait              a cut that a wait crosses holds its capacity
 --   job-cost, job-member, job-total    a job's capacity in the document's network is at most its cost, its cost if it is of X, and S
 --   job-sink              T has none
 --   total-costs           S is at most the sum of all costs
-use mathlib.Core.Path.{_≡_, refl, ap, _∙_}
+use mathlib.Core.Path.{_≡_, refl, ap, _∙_, subst}
 use mathlib.Core.Logic.{_⊎_, inl, inr, _≢_}
 use mathlib.Core.Bool.{Bool, true, false, not}
 use Prim.Native.Nat.{ℕ, suc, _*_, _/_, _%_, _≤_, _<_, zero-le}
@@ -113,6 +114,16 @@ module _ (arc : ℕ → ℕ → Bool) (job : ℕ → ℕ) (wide : ℕ) where
       let e = eqb→eq (out v % 2) 0 (both-left (eqb (out v % 2) 0) (arc (out u / 2) (out v / 2)) (both-right (eqb (out u % 2) 1) (both (eqb (out v % 2) 0) (arc (out u / 2) (out v / 2))) t)) in
       omega arith) in
       omega (arith, z, y)
+
+  -- before any round nothing flows on a wait: there is no room back along it
+  pub net-unused : (u v : ℕ) → (T (arc u u) → ⊥) → gate (arc u v) (net arc job wide (inn v) (out u)) ≡ 0
+  net-unused u v apart = go (tested (arc u v))
+    where
+      go : T (arc u v) ⊎ (T (arc u v) → ⊥) → gate (arc u v) (net arc job wide (inn v) (out u)) ≡ 0
+      go (inr t) = gate-off (arc u v) (net arc job wide (inn v) (out u)) t
+      go (inl t) =
+          gate-on (arc u v) (net arc job wide (inn v) (out u)) t
+          ∙ net-in v (out u) (λ e. apart (subst (λ (z : ℕ). T (arc u z)) (let q : v ≡ u = omega arith in q) t))
 
   -- ---- the capacity of a cut
 

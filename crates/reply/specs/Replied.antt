@@ -1,5 +1,6 @@
 -- Text in, line out (document 01, "Frames": "The program reads one snapshot from standard input and writes one answer or refusal line").
 --
+--   frameOf d                          the answer frame of a decision: its outcome by the document's number, price, rounds, victims
 --   Given text rows costs              rows and costs are those of the jobs of the text
 --   LineOf text line                   the line that answers a text
 --   Replied text before r after        what the text function returns and leaves in the lent list, `before` the call and `after` it
@@ -9,13 +10,18 @@ use Prim.Native.Nat.{ℕ, _<_, _≤_}
 use lib.ListN.{length, getD, drop}
 use Rattle.graph.specs.Waits.{waits}
 use Rattle.flow.specs.Accepted.{costOf}
-use Rattle.verdict.specs.Answers.{Verdict}
+use Rattle.verdict.specs.declared.Decision.{Decision}
+use Rattle.verdict.specs.Answers.{number, Verdict}
+use Rattle.frames.specs.declared.Answer.{Answer}
 use Rattle.frames.specs.declared.Refusal.{Refusal}
 use Rattle.frames.specs.Records.{answered}
 use Rattle.frames.specs.Fields.{headerAt}
 use Rattle.refusals.specs.Refused.{refusalOf, Taken}
 use Rattle.reader.specs.Snapshots.{RowOf, CostOf}
 use Rattle.lines.specs.Lines.{answerLine, refusalLine}
+
+abbrev pub frameOf : Decision → Answer
+frameOf d = answered (number (d .outcome)) (d .price) (d .rounds) (d .victims)
 
 pub record Given (text rows costs : List ℕ) : Type 0 where
   pub jobs : length rows ≡ headerAt text 0 .n

@@ -2,7 +2,7 @@
 -- Assumes nothing.
 --
 --   Siding                         ins and outs are parts of the sink's side; outs has all out-nodes with a step to ins, and fresh the in-nodes with a step to outs that are not in ins
---   side-start, side-grow, side-turn, side-end
+--   side-places, side-others, side-start, side-grow, side-turn, side-end
 --   sided-unique                   two results of `sink_side` are equal
 use mathlib.Core.Path.{_≡_, refl, sym, subst}
 use mathlib.Core.Logic.{_⊎_, inl, inr, _≢_}
@@ -11,9 +11,10 @@ use Prim.Native.Nat.{ℕ, _+_, _-_, _*_, _/_, _^_, _<_}
 use native.Mathlib.Decide.{ℕ-discrete}
 use native.Mathlib.Numerals.{suc-eq-add-one}
 use native.Mathlib.Omega.{arith}
-use lib.Bits.{bitOr, bitXor, or-lt}
+use lib.Bits.{bitOr, bitXor, or-lt, xor-lt}
 use lib.Count.{trailingZeros}
 use lib.Dec.{T}
+use lib.ListN.{length}
 use lib.Pow.{pow-lt}
 use Rattle.bits.specs.Mask.{bit, Has, MaskOf}
 use Rattle.bits.proofs.Digits.{bit-pow-same}
@@ -22,11 +23,12 @@ use Rattle.bits.proofs.Lowest.{trailing-has, has-below}
 use Rattle.bits.proofs.Rest.{rest-end}
 use Rattle.walks.specs.Walk.{Walk, Reaches}
 use Rattle.walks.proofs.ReachLaws.{reaches-here, reaches-step}
+use Rattle.graph.specs.Hits.{Gatherable, Hits}
 use Rattle.network.specs.Rooms.{step}
 use Rattle.network.specs.Arcs.{inn, out}
 use Rattle.search.specs.Masks.{at, masked}
 use Rattle.search.proofs.MaskSteps.{step-parts, step-made}
-use Rattle.side.specs.Home.{Hits, Sidable, Home, Sided}
+use Rattle.side.specs.Home.{Sidable, Home, Sided}
 
 pub record Siding (S : List ℕ) (t x ins outs : ℕ) : Type 0 where
   pub given : Sidable S t x
@@ -40,6 +42,13 @@ pub record Siding (S : List ℕ) (t x ins outs : ℕ) : Type 0 where
   pub sink : Has ins t
   -- each out-node with a step to ins is in outs
   pub shut : (u v : ℕ) → Has x u → Has (at S (2 * u + 1)) v → Has ins v → Has outs u
+
+-- each node has its mask: those of a set of jobs, and those of the jobs that are not yet marked
+pub side-places : (S : List ℕ) (side jobs : ℕ) → length S ≡ 128 → side < 2 → jobs < 2 ^ 64 → Gatherable S 2 side jobs
+side-places S side jobs e l small = record { place = λ u h. omega (arith, e, has-below 64 jobs u small h) }
+
+pub side-others : (S : List ℕ) (side x marked : ℕ) → length S ≡ 128 → side < 2 → x < 2 ^ 64 → marked < 2 ^ 64 → Gatherable S 2 side (bitXor x marked)
+side-others S side x marked e l small fits = side-places S side (bitXor x marked) e l (xor-lt 64 x marked small fits)
 
 -- a step to a node from which the sink is reached
 home-step : (S : List ℕ) (t a b : ℕ) → b < 128 → T (step (masked S) a b) → Reaches (step (masked S)) 128 b (inn t) → Reaches (step (masked S)) 128 a (inn t)
@@ -59,7 +68,7 @@ module _ (S : List ℕ) (t x : ℕ) (G : Sidable S t x) (small : x < 2 ^ 64) whe
       held : Has (at S (inn u)) (out v / 2)
       held = let e : out v / 2 ≡ v = omega arith in let f : inn u ≡ 2 * u + 0 = omega arith in subst (λ (z : ℕ). Has (at S (inn u)) z) (sym e) (subst (λ (z : ℕ). Has (at S z) v) (sym f) h)
 
-  pub side-start : (b : ℕ) → b ≡ 2 ^ t → (outs : ℕ) → MaskOf (Hits S 1 x b) outs → Siding S t x b outs
+  pub side-start : (b : ℕ) → b ≡ 2 ^ t → (outs : ℕ) → MaskOf (Hits S 2 1 x b) outs → Siding S t x b outs
   side-start b eb outs M = record {
     given = G;
     in-small = subst (λ (z : ℕ). z < 2 ^ 64) (sym eb) (pow-lt (G .job));
@@ -67,9 +76,9 @@ module _ (S : List ℕ) (t x : ℕ) (G : Sidable S t x) (small : x < 2 ^ 64) whe
     in-part = λ u h. subst (Has x) (sym (only u h)) (G .member);
     out-part = λ u h. M .sound u h .member;
     in-home = here;
-    out-home = λ u h. let k = M .sound u h in from-out u (k .other) (k .step) (here (k .other) (k .hit)) (has-below 64 x u small (k .member));
+    out-home = λ u h. let k = M .sound u h in from-out u (k .other) (k .named) (here (k .other) (k .hit)) (has-below 64 x u small (k .member));
     sink = subst (λ (z : ℕ). Has z t) (sym eb) (bit-pow-same t);
-    shut = λ u v m s h. M .complete u (record { member = m; other = v; step = s; hit = h });
+    shut = λ u v m s h. M .complete u (record { member = m; other = v; named = s; hit = h });
   }
     where
       only : (u : ℕ) → Has b u → u ≡ t
@@ -78,7 +87,7 @@ module _ (S : List ℕ) (t x : ℕ) (G : Sidable S t x) (small : x < 2 ^ 64) whe
       here : (u : ℕ) → Has b u → Home S t inn u
       here u h = subst (Home S t inn) (sym (only u h)) (record { job = G .job; home = reaches-here (step (masked S)) 128 (inn t) })
 
-module _ (S : List ℕ) (t x ins outs : ℕ) (small : x < 2 ^ 64) (D : Siding S t x ins outs) (fresh : ℕ) (M : MaskOf (Hits S 0 (bitXor x ins) outs) fresh) where
+module _ (S : List ℕ) (t x ins outs : ℕ) (small : x < 2 ^ 64) (D : Siding S t x ins outs) (fresh : ℕ) (M : MaskOf (Hits S 2 0 (bitXor x ins) outs) fresh) where
   -- what is fresh is of x, and not in ins
   new : (u : ℕ) → Has fresh u → Has x u × (Has ins u → ⊥)
   new u h = has-xor x ins u (D .in-part u) (M .sound u h .member)
@@ -88,7 +97,7 @@ module _ (S : List ℕ) (t x ins outs : ℕ) (small : x < 2 ^ 64) (D : Siding S 
     where
       go : Has ins u ⊎ Has fresh u → Home S t inn u
       go (inl k) = D .in-home u k
-      go (inr k) = let m = M .sound u k in from-in S t x (D .given) small u (m .other) (m .step) (D .out-home (m .other) (m .hit)) (has-below 64 x u small (new u k .0))
+      go (inr k) = let m = M .sound u k in from-in S t x (D .given) small u (m .other) (m .named) (D .out-home (m .other) (m .hit)) (has-below 64 x u small (new u k .0))
 
   pub side-grow : fresh ≢ 0 → ins < bitOr ins fresh
   side-grow ne = let k = trailing-has 64 fresh (M .small) ne .0 in or-grows ins fresh (trailingZeros 64 fresh) (new (trailingZeros 64 fresh) k .1) k
@@ -96,7 +105,7 @@ module _ (S : List ℕ) (t x ins outs : ℕ) (small : x < 2 ^ 64) (D : Siding S 
   pub side-small : bitOr ins fresh < 2 ^ 64
   side-small = or-lt 64 ins fresh (D .in-small) (M .small)
 
-  pub side-turn : (more : ℕ) → MaskOf (Hits S 1 (bitXor x outs) (bitOr ins fresh)) more → Siding S t x (bitOr ins fresh) (bitOr outs more)
+  pub side-turn : (more : ℕ) → MaskOf (Hits S 2 1 (bitXor x outs) (bitOr ins fresh)) more → Siding S t x (bitOr ins fresh) (bitOr outs more)
   side-turn more N = record {
     given = D .given;
     in-small = side-small;
@@ -122,11 +131,11 @@ module _ (S : List ℕ) (t x ins outs : ℕ) (small : x < 2 ^ 64) (D : Siding S 
 
       homes : (u : ℕ) → Has outs u ⊎ Has more u → Home S t out u
       homes u (inl h) = D .out-home u h
-      homes u (inr h) = let m = N .sound u h in from-out S t x (D .given) small u (m .other) (m .step) (in-home′ (m .other) (m .hit)) (has-below 64 x u small (late u h))
+      homes u (inr h) = let m = N .sound u h in from-out S t x (D .given) small u (m .other) (m .named) (in-home′ (m .other) (m .hit)) (has-below 64 x u small (late u h))
 
       shuts : (u v : ℕ) → Has x u → Has (at S (2 * u + 1)) v → Has (bitOr ins fresh) v → Dec (bit outs u ≡ 1) → Has (bitOr outs more) u
       shuts u v m s h (yes e) = has-or-l outs more u e
-      shuts u v m s h (no e) = has-or-r outs more u (N .complete u (record { member = xor-has x outs u m e; other = v; step = s; hit = h }))
+      shuts u v m s h (no e) = has-or-r outs more u (N .complete u (record { member = xor-has x outs u m e; other = v; named = s; hit = h }))
 
   pub side-end : fresh ≡ 0 → Sided S t ins outs
   side-end z = record {
@@ -156,7 +165,7 @@ module _ (S : List ℕ) (t x ins outs : ℕ) (small : x < 2 ^ 64) (D : Siding S 
               absurd (rest-end fresh u z (M .complete u (record {
                 member = xor-has x ins u m q;
                 other = v;
-                step = subst (λ (z : ℕ). Has (at S z) v) f (subst (λ (z : ℕ). Has (at S (inn u)) z) e (k .1));
+                named = subst (λ (z : ℕ). Has (at S z) v) f (subst (λ (z : ℕ). Has (at S (inn u)) z) e (k .1));
                 hit = h;
               })))
 

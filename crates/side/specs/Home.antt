@@ -1,31 +1,19 @@
 -- The sink's side of a network after its rounds: where the sink is still reached (document 01, "Slips the proofs shall exclude", 2: the cut is read from there).
 -- The steps are masks, as in the search; the sink is t's in-node.
 --
---   Gatherable S side           128 masks, and 0 for in-nodes or 1 for out-nodes
---   Hits S side jobs marked u   u is one of the jobs, and a step leads from its node on that side to the node of a marked job on the other
---   Sidable S t x               what `sink_side` is given: no step leads from a node of a job outside x
---   Home S t node u             the sink is reached from job u's in-node (node is inn) or out-node (node is out)
---   Sided S t ins outs          ins and outs are the masks of the jobs from whose in-node and out-node it is reached
+--   Sidable S t x         what `sink_side` is given: no step leads from a node of a job outside x
+--   Home S t node u       the sink is reached from job u's in-node (node is inn) or out-node (node is out)
+--   Sided S t ins outs    ins and outs are the masks of the jobs from whose in-node and out-node it is reached
 use mathlib.Core.Path.{_≡_}
 use mathlib.Core.List.{List}
-use Prim.Native.Nat.{ℕ, _+_, _*_, _/_, _<_}
+use Prim.Native.Nat.{ℕ, _/_, _<_}
 use lib.Dec.{T}
 use lib.ListN.{length}
 use Rattle.bits.specs.Mask.{Has, MaskOf}
 use Rattle.walks.specs.Walk.{Reaches}
 use Rattle.network.specs.Rooms.{step}
 use Rattle.network.specs.Arcs.{inn, out}
-use Rattle.search.specs.Masks.{at, masked}
-
-pub record Gatherable (S : List ℕ) (side : ℕ) : Type 0 where
-  pub size : length S ≡ 128
-  pub sides : side < 2
-
-pub record Hits (S : List ℕ) (side jobs marked u : ℕ) : Type 0 where
-  pub member : Has jobs u
-  pub other : ℕ
-  pub step : Has (at S (2 * u + side)) other
-  pub hit : Has marked other
+use Rattle.search.specs.Masks.{masked}
 
 pub record Sidable (S : List ℕ) (t x : ℕ) : Type 0 where
   pub size : length S ≡ 128

@@ -5,7 +5,7 @@
 --   checked-1 .. checked-9           one check more
 --   fault-4 .. fault-8               the fault that a check has found
 --   checked-first                    so no fault of a smaller number is there
---   refuse                           a fault found then is refused by its number
+--   refuse                           a fault found then is the refusal that is due
 --   checked-faultless                after all checks there is no fault
 use mathlib.Core.Path.{_≡_, sym, ap, subst}
 use mathlib.Core.Logic.{_≢_, ⊎-elim}
@@ -19,12 +19,10 @@ use Rattle.sums.specs.Sum.{sum}
 use Rattle.graph.specs.Waits.{waits, Known}
 use Rattle.graph.specs.Waits.Known.{all, stray as named}
 use Rattle.flow.specs.Accepted.{costOf}
-use Rattle.verdict.specs.declared.Answer.the-variants.{Refused}
-use Rattle.verdict.specs.Refusals.{Fault, Refusal, Faultless}
+use Rattle.verdict.specs.Refusals.{Fault, Faultless, Due}
 use Rattle.verdict.specs.Refusals.Fault.{empty, crowded, uneven, short, stray, looped, absent, free, dear, heavy}
+use Rattle.verdict.specs.Refusals.Due.{refused}
 use Rattle.verdict.specs.Checks.{Looped, Strayed, Payable}
-use Rattle.verdict.specs.Called.{Called}
-use Rattle.verdict.specs.Called.Called.{refuses}
 use Rattle.verdict.proofs.RefusalLaws.{fault-range}
 
 pub record Checked (rows costs : List ℕ) (τ work m : ℕ) : Type 0 where
@@ -206,7 +204,6 @@ module _ (rows costs : List ℕ) (τ work : ℕ) where
   pub fault-8 : Checked rows costs τ work 8 → (s : ℕ) → s ≡ sum (length costs) (costOf costs) → 2 ^ 63 < s + 1 → Fault rows costs τ work 8
   fault-8 C s e l = heavy (subst (λ (z : ℕ). 2 ^ 63 < z) (checked-sum C s e) l)
 
--- a fault found after the checks before it is the refusal that is due, and nothing was written
-pub refuse : (rows costs : List ℕ) (τ allowance : ℕ) (before : List ℕ) (k : ℕ) → Checked rows costs τ (length before) k → Fault rows costs τ (length before) k
-    → Called rows costs τ allowance before (Refused k) before
-refuse rows costs τ allowance before k C f = refuses k (record { fault = f; first = checked-first rows costs τ (length before) k C })
+  -- a fault found after the checks before it is the refusal that is due
+  pub refuse : (k : ℕ) → Checked rows costs τ work k → Fault rows costs τ work k → Due rows costs τ work k
+  refuse k C f = refused k (record { fault = f; first = checked-first k C })

@@ -5,6 +5,7 @@
 --   x-exact            the mask of X tests X
 --   decide-accepted    an input without faults, with its X, is what the rounds are made on
 --   decide-waits, decide-unfinished, decide-itself, decide-others   the four cases
+--   cleared-faultless, cleared-ringed, called-cleared   the same input on the cleared list, and a call on it
 --   price-inflow, inflow-summable   the flow into T is the price of the set, and can be added up
 use mathlib.Core.Path.{_≡_, refl, sym, ap, _∙_, subst}
 use mathlib.Core.Logic.{_≢_}
@@ -13,11 +14,14 @@ use mathlib.Core.List.{List}
 use Prim.Native.Nat.{ℕ, suc, _+_, _*_, _^_, _<_, _≤_}
 use native.Mathlib.Omega.{arith}
 use lib.Bits.{bitAnd, bitXor, and-lt, xor-lt}
+use lib.Arith.{digits-lt}
 use lib.Dec.{T}
 use lib.ListN.{length, getD}
 use Rattle.bits.specs.Mask.{Has, has, MaskOf}
 use Rattle.bits.proofs.Masks.{has-test, test-has, has-and, and-has, has-xor, xor-has}
 use Rattle.sums.specs.Sum.{sum, gate}
+use Rattle.sums.specs.Tests.{both}
+use Rattle.sums.proofs.TestLaws.{both-left}
 use Rattle.sums.proofs.SumLaws.{sum-cong, sum-mono, gate-le}
 use Rattle.walks.specs.Walk.{Reaches}
 use Rattle.walks.proofs.ReachLaws.{reaches-here, reaches-in}
@@ -26,13 +30,15 @@ use Rattle.graph.specs.Rings.{Ring, InX, RingThrough}
 use Rattle.graph.specs.Rings.RingThrough.{some, none}
 use Rattle.network.specs.Rooms.{Room, step}
 use Rattle.network.specs.Rounds.{Stuck}
-use Rattle.network.specs.Arcs.{inn, out, within}
+use Rattle.network.specs.Rounds.Rounds.{none as no-round}
+use Rattle.network.specs.Arcs.{inn, out, within, total, jobCapacity, capacity}
 use Rattle.network.specs.Sets.{Exactly, Best, price}
+use Rattle.network.proofs.ArcLaws.{net-unused}
 use Rattle.network.proofs.FlowLaws.{flowOn}
 use Rattle.network.proofs.SinkSide.{Crossing}
 use Rattle.network.proofs.BestLaws.{crossing-best, best-price}
-use Rattle.network.proofs.RingPaths.{no-ring-rounds}
 use Rattle.flow.specs.Accepted.{costOf, Accepted}
+use Rattle.flow.specs.Cleared.{Cleared}
 use Rattle.flow.specs.Flowed.{Side, Ends, Flowed}
 use Rattle.flow.specs.Flowed.Ends.{settled, unfinished as ends-unfinished}
 use Rattle.flow.specs.Inflow.{inflowOf, Summable}
@@ -42,7 +48,7 @@ use Rattle.verdict.specs.declared.Answer.the-variants.{Decided}
 use Rattle.verdict.specs.Refusals.{Faultless}
 use Rattle.verdict.specs.Answers.{After, Victims, Verdict}
 use Rattle.verdict.specs.Answers.Verdict.{stays, itself, others, unfinished}
-use Rattle.verdict.specs.Called.{Flows, Called}
+use Rattle.verdict.specs.Called.{Flows, Ringed, Called}
 use Rattle.verdict.specs.Called.Called.{answers}
 use Rattle.verdict.proofs.RefusalLaws.{faultless-few, faultless-job, faultless-jobs, faultless-apart, faultless-priced, faultless-positive, faultless-bounded, faultless-size}
 
@@ -73,7 +79,7 @@ module _ (rows costs : List ℕ) (τ x : ℕ) (X : MaskOf (InX (waits rows) (len
   pub x-exact : Exactly (length rows) (InX (waits rows) (length rows) τ) (has x)
   x-exact = record { sound = λ u l t. X .sound u (test-has x u t); complete = λ u l m. has-test x u (X .complete u m) }
 
-  module _ (before : List ℕ) (F : Faultless rows costs τ (length before)) where
+  module _ (before : List ℕ) (F : Faultless rows costs τ (length before)) (B : (i : ℕ) → i < length rows * length rows → getD before i 0 ≡ 0) where
     lτ : τ < length rows
     lτ = faultless-job rows costs τ (length before) F
 
@@ -88,7 +94,33 @@ module _ (rows costs : List ℕ) (τ x : ℕ) (X : MaskOf (InX (waits rows) (len
       member = X .complete τ (record { out = reaches-here (waits rows) (length rows) τ; home = reaches-here (waits rows) (length rows) τ });
       members = λ u h. reaches-in (waits rows) (length rows) τ u lτ (X .sound u h .out);
       size = faultless-size rows costs τ (length before) F;
+      blank = B;
     }
+
+    apart : (u : ℕ) → u < length rows → T (waits rows u u) → ⊥
+    apart u l t = faultless-apart rows costs τ (length before) F u t
+
+    -- ---- no ring: the list of zeros is that of no round
+
+    within-apart : (u : ℕ) → T (within (waits rows) (has x) u u) → ⊥
+    unfolding within
+    within-apart u t = faultless-apart rows costs τ (length before) F u (both-left (waits rows u u) (both (has x u) (has x u)) t)
+
+    unmoved : Flows rows costs τ 0 before before
+    unfolding capacity
+    unmoved = record {
+      room = capacity (waits rows) (has x) (length rows) τ (costOf costs);
+      rounds = record { x = has x; exact = x-exact; made = no-round (λ a b la lb. refl) };
+      flow = λ u v lu lv.
+          B (u * length rows + v) (digits-lt lu lv)
+          ∙ sym (net-unused (within (waits rows) (has x)) (jobCapacity (has x) τ (costOf costs)) (suc (total (length rows) (has x) (costOf costs))) u v (within-apart u));
+      size = refl;
+      rest = λ i l. refl;
+    }
+
+    pub decide-waits : (allowance : ℕ) → ((p : List ℕ) → Ring (waits rows) (length rows) τ p → ⊥)
+        → Called rows costs τ allowance before (Decided (record { outcome = Wait; price = 0; rounds = 0; victims = 0 })) before
+    decide-waits allowance f = answers _ before F (stays f) unmoved
 
     module _ (allowance : ℕ) (after : List ℕ) (k : ℕ) (left : Bool) (ins outs : ℕ) (M : Flowed rows costs τ x allowance before after k left ins outs) where
       abbrev after-made : After (waits rows) (length rows) τ (costOf costs) k (M .room)
@@ -96,15 +128,6 @@ module _ (rows costs : List ℕ) (τ x : ℕ) (X : MaskOf (InX (waits rows) (len
 
       flows-made : Flows rows costs τ k before after
       flows-made = record { room = M .room; rounds = after-made; flow = M .flow; size = M .size; rest = M .rest }
-
-      apart : (u : ℕ) → u < length rows → T (waits rows u u) → ⊥
-      apart u l t = faultless-apart rows costs τ (length before) F u t
-
-      pub decide-waits : (d : Decision) → ((p : List ℕ) → Ring (waits rows) (length rows) τ p → ⊥)
-          → d ≡ record { outcome = Wait; price = 0; rounds = 0; victims = 0 } → Called rows costs τ allowance before (Decided d) after
-      decide-waits d f e =
-          let z = no-ring-rounds (waits rows) (has x) (length rows) τ (costOf costs) lτ f k (M .room) (M .made) in
-          rw e (answers _ after F (stays f) (subst (λ (i : ℕ). Flows rows costs τ i before after) z flows-made))
 
       pub decide-unfinished : (p : List ℕ) → Ring (waits rows) (length rows) τ p → left ≡ true
           → (d : Decision) → d ≡ record { outcome = NotYet; price = 0; rounds = k; victims = 0 } → Called rows costs τ allowance before (Decided d) after
@@ -204,3 +227,23 @@ module _ (rows costs : List ℕ) (τ x : ℕ) (X : MaskOf (InX (waits rows) (len
         decide-others q e c = answers _ after F
             (subst (λ (z : ℕ). Verdict (waits rows) (length rows) τ (costOf costs) allowance 2 z k set) (sym (e ∙ price-inflow))
             (others p g k (M .room) after-made stuck (M .limit) (has set) best (subst (λ (z : ℕ). z ≤ costOf costs τ) (e ∙ price-inflow) c) set victims)) flows-made
+
+-- ---- the list before it was cleared
+
+module _ (rows costs : List ℕ) (τ : ℕ) (old before : List ℕ) (C : Cleared (length rows) old before) where
+  pub cleared-faultless : Faultless rows costs τ (length old) → Faultless rows costs τ (length before)
+  cleared-faultless = subst (λ (z : ℕ). Faultless rows costs τ z) (sym (C .size))
+
+  pub cleared-ringed : Faultless rows costs τ (length old) → (x : ℕ) → MaskOf (InX (waits rows) (length rows) τ) x
+      → (b : Bool) → RingThrough (waits rows) (length rows) τ b → b ≡ true → Ringed rows costs τ x before
+  cleared-ringed F x X b r e = record {
+    faultless = cleared-faultless F;
+    exact = X;
+    ring = subst (RingThrough (waits rows) (length rows) τ) e r;
+    blank = C .none;
+  }
+
+  pub called-cleared : (allowance : ℕ) (after : List ℕ) (d : Decision) → Called rows costs τ allowance before (Decided d) after → Called rows costs τ allowance old (Decided d) after
+  called-cleared allowance after d (answers e after′ F v M) = answers e after′
+      (subst (λ (z : ℕ). Faultless rows costs τ z) (C .size) F) v
+      (record { room = M .room; rounds = M .rounds; flow = M .flow; size = M .size ∙ C .size; rest = λ i l. M .rest i l ∙ C .rest i l })

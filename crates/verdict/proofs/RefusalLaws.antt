@@ -3,9 +3,11 @@
 --
 --   refusal-unique       no two refusals are due
 --   refusal-faultless    none is due where there is no fault
---   fault-below          refusals have the numbers 1 to 8
+--   fault-range          refusals have the numbers 1 to 8
+--   due-refused, due-none   what a number says that is due, above 0 and 0
+--   due-unique           two results of `refusal` are equal
 --   faultless-..         what an input without faults is, fault by fault
-use mathlib.Core.Path.{_≡_, sym, subst}
+use mathlib.Core.Path.{_≡_, refl, sym, subst}
 use mathlib.Core.Logic.{_≢_}
 use mathlib.Core.List.{List}
 use Prim.Native.Nat.{ℕ, suc, _*_, _^_, _<_, _≤_}
@@ -16,7 +18,8 @@ use lib.ListN.{length}
 use Rattle.sums.specs.Sum.{sum}
 use Rattle.graph.specs.Waits.{waits, Jobs}
 use Rattle.flow.specs.Accepted.{costOf}
-use Rattle.verdict.specs.Refusals.{Fault, Refusal, Faultless}
+use Rattle.verdict.specs.Refusals.{Fault, Refusal, Faultless, Due}
+use Rattle.verdict.specs.Refusals.Due.{refused, none}
 use Rattle.verdict.specs.Refusals.Fault.{empty, crowded, uneven, short, stray, looped, absent, free, dear, heavy}
 
 module _ (rows costs : List ℕ) (τ work : ℕ) where
@@ -43,6 +46,24 @@ module _ (rows costs : List ℕ) (τ work : ℕ) where
   fault-range k (free j l e) = (omega arith, omega arith)
   fault-range k (dear j l e) = (omega arith, omega arith)
   fault-range k (heavy l) = (omega arith, omega arith)
+
+  -- ---- what is due
+
+  pub due-refused : (k : ℕ) → Due rows costs τ work k → k ≢ 0 → Refusal rows costs τ work k
+  due-refused k (refused m r) ne = r
+  due-refused k (none f) ne = absurd (ne refl)
+
+  pub due-none : (k : ℕ) → Due rows costs τ work k → k ≡ 0 → Faultless rows costs τ work
+  due-none k (refused m r) e = let l = fault-range m (r .fault) in absurd (omega (arith, l .0))
+  due-none k (none f) e = f
+
+  pub due-unique : (j k : ℕ) → Due rows costs τ work j → Due rows costs τ work k → j ≡ k
+  due-unique j k (refused l a) (refused m b) = refusal-unique l m a b
+  due-unique j k (refused l a) (none f) = absurd (f l (a .fault))
+  due-unique j k (none f) (refused m b) = absurd (f m (b .fault))
+  due-unique j k (none f) (none g) = refl
+
+  -- ---- what an input without faults is
 
   module _ (f : Faultless rows costs τ work) where
     pub faultless-some : 0 < length rows

@@ -4,6 +4,7 @@
 --   Fault rows costs τ work k     the input has the fault of refusal k
 --   Refusal rows costs τ work k   refusal k is due: "Given exactly when no smaller-placed refusal applies and" the input has its fault
 --   Faultless rows costs τ work   no refusal is due
+--   Due rows costs τ work k       k is the number of the refusal that is due, or 0 where none is
 use mathlib.Core.Path.{_≡_}
 use mathlib.Core.Logic.{_≢_}
 use mathlib.Core.List.{List}
@@ -40,3 +41,7 @@ pub record Refusal (rows costs : List ℕ) (τ work k : ℕ) : Type 0 where
 
 abbrev pub Faultless : List ℕ → List ℕ → ℕ → ℕ → Type 0
 Faultless rows costs τ work = (k : ℕ) → Fault rows costs τ work k → ⊥
+
+pub data Due (rows costs : List ℕ) (τ work : ℕ) : ℕ → Type 0 where
+  refused : (k : ℕ) → Refusal rows costs τ work k → Due rows costs τ work k
+  none : Faultless rows costs τ work → Due rows costs τ work 0

@@ -2,15 +2,16 @@
 //
 // `verdict` refuses an input by the first of refusals 1 to 8 that is due, and writes nothing then; otherwise it says wait, abort T, abort these others,
 // or not yet, with price, rounds and victims as the document defines them, and leaves the flow of the counted rounds in the work list.
+// `refusal` is its checks, and `decide` its part behind the search for a ring, for a caller that has a work list of zeros.
 ghost use mathlib.Core.Path.{_≡_};
 ghost use Prim.Native.Nat.{_≤_};
 ghost use lib.ListN.{length};
 ghost use Rattle.sums.specs.Sum.{sum};
 ghost use Rattle.flow.specs.Accepted.{costOf};
 ghost use Rattle.verdict.specs.Checks.{Looped, Strayed, Payable};
-ghost use Rattle.verdict.specs.Refusals.{Faultless};
+ghost use Rattle.verdict.specs.Refusals.{Due};
 ghost use Rattle.verdict.specs.Answers.{number};
-ghost use Rattle.verdict.specs.Called.{Called};
+ghost use Rattle.verdict.specs.Called.{Ringed, Called};
 ghost use Rattle.verdict.specs.declared.Answer.the-variants.{Decided as Answer·Decided};
 
 // What to do.
@@ -95,21 +96,56 @@ fn sum_of(costs: &[u64]) -> u64
     total
 }
 
-// The verdict on an input without faults.
-fn decide(rows: &[u64], costs: &[u64], t: usize, allowance: u32, work: &mut [u64]) -> Decision
-    requires { ⌜ Faultless (now rows) (now costs) t (length (now work)) ⌝ }
+const HIGHEST_SUM: u64 = 9223372036854775808;
+
+// The number of the refusal that is due to an input with so many places of work, or 0.
+pub fn refusal(rows: &[u64], costs: &[u64], t: usize, places: usize) -> u8
+    ensures { λ r. ⌜ Due (now (rows .entry)) (now (costs .entry)) t places r ⌝ }
+{
+    let n = rows.len();
+    if n == 0 {
+        return 1;
+    }
+    if 64 < n {
+        return 1;
+    }
+    if costs.len() != n {
+        return 2;
+    }
+    if places < n * n {
+        return 3;
+    }
+    if !graph::rows_known(rows) {
+        return 4;
+    }
+    if waits_for_itself(rows) {
+        return 5;
+    }
+    if n <= t {
+        return 6;
+    }
+    if costs_stray(costs) {
+        return 7;
+    }
+    if HIGHEST_SUM < sum_of(costs) + 1 {
+        return 8;
+    }
+    0
+}
+
+// The verdict where a ring passes through t; x is X.
+pub fn decide(
+    rows: &[u64],
+    costs: &[u64],
+    t: usize,
+    x: u64,
+    allowance: u32,
+    work: &mut [u64],
+) -> Decision
+    requires { ⌜ Ringed (now rows) (now costs) t x (now work) ⌝ }
     ensures { λ r. ⌜ Called (now (rows .entry)) (now (costs .entry)) t allowance (now (work .entry)) (Answer·Decided r) (now (work .exit)) ⌝ }
 {
-    let x = graph::on_rings(rows, t);
     let made = flow::make_rounds(rows, costs, t, x, allowance, work);
-    if !graph::ring_through(rows, t, x) {
-        return Decision {
-            outcome: Outcome::Wait,
-            price: 0,
-            rounds: 0,
-            victims: 0,
-        };
-    }
     if made.left {
         return Decision {
             outcome: Outcome::NotYet,
@@ -136,39 +172,23 @@ fn decide(rows: &[u64], costs: &[u64], t: usize, allowance: u32, work: &mut [u64
     }
 }
 
-const HIGHEST_SUM: u64 = 9223372036854775808;
-
 // The verdict call.
 pub fn verdict(rows: &[u64], costs: &[u64], t: usize, allowance: u32, work: &mut [u64]) -> Answer
     ensures { λ r. ⌜ Called (now (rows .entry)) (now (costs .entry)) t allowance (now (work .entry)) r (now (work .exit)) ⌝ }
 {
-    let n = rows.len();
-    if n == 0 {
-        return Answer::Refused(1);
+    let k = refusal(rows, costs, t, work.len());
+    if k != 0 {
+        return Answer::Refused(k);
     }
-    if 64 < n {
-        return Answer::Refused(1);
+    flow::clear(work, rows.len());
+    let x = graph::on_rings(rows, t);
+    if !graph::ring_through(rows, t, x) {
+        return Answer::Decided(Decision {
+            outcome: Outcome::Wait,
+            price: 0,
+            rounds: 0,
+            victims: 0,
+        });
     }
-    if costs.len() != n {
-        return Answer::Refused(2);
-    }
-    if work.len() < n * n {
-        return Answer::Refused(3);
-    }
-    if !graph::rows_known(rows) {
-        return Answer::Refused(4);
-    }
-    if waits_for_itself(rows) {
-        return Answer::Refused(5);
-    }
-    if n <= t {
-        return Answer::Refused(6);
-    }
-    if costs_stray(costs) {
-        return Answer::Refused(7);
-    }
-    if HIGHEST_SUM < sum_of(costs) + 1 {
-        return Answer::Refused(8);
-    }
-    Answer::Decided(decide(rows, costs, t, allowance, work))
+    Answer::Decided(decide(rows, costs, t, x, allowance, work))
 }

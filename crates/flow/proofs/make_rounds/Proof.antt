@@ -1,5 +1,5 @@
 -- `make_rounds`: so many rounds were made, the lists hold and show their rooms, and the search has answered for the next round.
-use mathlib.Core.Path.{refl, _∙_}
+use mathlib.Core.Path.{refl}
 use Prim.Native.Nat.{_-_}
 use native.Mathlib.Omega.{arith}
 use Rattle.flow.proofs.BeginLaws.{total-small}
@@ -9,7 +9,6 @@ use Rattle.flow.proofs.make_rounds.Tie as tie
 use Rattle.flow.proofs.make_rounds.Reads as reads
 use Rattle.flow.proofs.make_rounds.Lts as lts
 use Rattle.flow.proofs.begin.Reads as begin-reads
-use Rattle.flow.proofs.clear.Reads as clear-reads
 use Rattle.flow.proofs.total_cost.Reads as total-cost-reads
 use Rattle.push.proofs.amount.Reads as amount-reads
 use Rattle.push.proofs.push.Reads as push-reads
@@ -29,32 +28,29 @@ total-cost-requires c κs = accepted-costed _ _ _ _ _ (c .before .before .before
 add-wide : tie.Need-add-wide Inv-loop μ-loop
 add-wide c = omega (arith, c .total-cost .ensures, total-small _ _ _ _ _ (c .before .before .before .before .pre))
 
-clear-requires : tie.Need-clear-requires Inv-loop μ-loop
-clear-requires c κs = (c .before .before .before .before .before .pre .jobs .few, c .before .before .before .before .before .pre .size)
-
 begin-requires : tie.Need-begin-requires Inv-loop μ-loop
-begin-requires c κs = accepted-beginnable _ _ _ _ _ _ (c .before .before .before .before .before .before .before .before .before .pre) 128 refl refl
+begin-requires c κs = accepted-beginnable _ _ _ _ _ _ (c .before .before .before .before .before .pre) 128 refl refl
 
 mul-search : tie.Need-mul-search Inv-loop μ-loop
-mul-search c = let a = c .before .before .before .before .before .before .before .before .before .before .before .pre in omega (arith, a .job, a .jobs .few)
+mul-search c = let a = c .before .before .before .before .before .before .before .pre in omega (arith, a .job, a .jobs .few)
 
 add-search : tie.Need-add-search Inv-loop μ-loop
-add-search c = let a = c .before .before .before .before .before .before .before .before .before .before .before .pre in omega (arith, a .job, a .jobs .few)
+add-search c = let a = c .before .before .before .before .before .before .before .pre in omega (arith, a .job, a .jobs .few)
 
 mul-search-2 : tie.Need-mul-search-2 Inv-loop μ-loop
-mul-search-2 c = let a = c .before .before .before .before .before .before .before .before .before .before .before .pre in omega (arith, a .job, a .jobs .few)
+mul-search-2 c = let a = c .before .before .before .before .before .before .before .pre in omega (arith, a .job, a .jobs .few)
 
 search-requires : tie.Need-search-requires Inv-loop μ-loop
-search-requires c κs = accepted-ready _ _ _ _ _ _ _ (c .before .before .before .before .before .before .before .before .before .before .before .before .before .pre) refl refl
+search-requires c κs = accepted-ready _ _ _ _ _ _ _ (c .before .before .before .before .before .before .before .before .before .pre) refl refl
 
 loop-holds : tie.Need-loop-holds Inv-loop μ-loop
-loop-holds c = running-start _ _ _ _ _ _ _ _ _ _ _ _ _ _ (c .before .before .before .before .before .before .before .before .before .before .before .before .before .before .pre) (c .before .before .before .before .before .before .before .before .before .before .total-cost .ensures) refl (c .before .before .before .before .before .before .before .before .clear .ensures) 64 refl refl (c .before .before .before .before .begin .ensures) _ _ (c .search .ensures)
+loop-holds c = running-start _ _ _ _ _ _ _ _ _ _ _ _ _ (c .before .before .before .before .before .before .before .before .before .before .pre) (c .before .before .before .before .before .before .total-cost .ensures) refl 64 refl refl (c .before .before .before .before .begin .ensures) _ _ (c .search .ensures)
 
 same-length : tie.Need-same-length Inv-loop μ-loop
-same-length c = c .before .before .loop .inv .size ∙ c .before .before .before .before .before .before .before .before .before .before .before .clear .ensures .size
+same-length c = c .before .before .loop .inv .size
 
 returns : tie.Need-returns Inv-loop μ-loop
-returns c = running-left _ _ _ _ _ _ _ _ _ _ _ _ _ _ (c .before .before .loop .inv) _ (c .before .before .before .before .before .before .before .before .before .before .before .clear .ensures) (c .before .loop-test .taken) (c .if1 .taken)
+returns c = running-left _ _ _ _ _ _ _ _ _ _ _ _ _ _ (c .before .before .loop .inv) (c .before .loop-test .taken) (c .if1 .taken)
 
 amount-requires : tie.Need-amount-requires Inv-loop μ-loop
 amount-requires c κs = running-measurable _ _ _ _ _ _ _ _ _ _ _ _ _ _ (c .before .before .before .before .before .before .loop .inv) (c .before .before .before .before .before .loop-test .taken)
@@ -63,7 +59,7 @@ push-requires : tie.Need-push-requires Inv-loop μ-loop
 push-requires c κs = running-pushable _ _ _ _ _ _ _ _ _ _ _ _ _ _ (c .before .before .before .before .before .before .before .before .before .before .before .before .loop .inv) (c .before .before .before .before .before .before .before .before .before .before .before .loop-test .taken) _ (c .before .before .before .before .before .amount .ensures)
 
 add-rounds : tie.Need-add-rounds Inv-loop μ-loop
-add-rounds c = omega (arith, c .before .before .before .before .before .before .before .before .before .before .before .before .before .before .before .before .before .before .before .before .before .before .before .before .before .before .before .before .before .before .fits .allowance, c .before .before .before .before .before .before .before .before .before .before .before .before .before .before .before .loop .inv .limit, c .before .before .before .before .before .before .before .before .before .before .before .before .before .if1 .left)
+add-rounds c = omega (arith, c .before .before .before .before .before .before .before .before .before .before .before .before .before .before .before .before .before .before .before .before .before .before .before .before .before .before .fits .allowance, c .before .before .before .before .before .before .before .before .before .before .before .before .before .before .before .loop .inv .limit, c .before .before .before .before .before .before .before .before .before .before .before .before .before .if1 .left)
 
 mul-search-3 : tie.Need-mul-search-3 Inv-loop μ-loop
 mul-search-3 c = omega (arith, running-job _ _ _ _ _ _ _ _ _ _ _ _ _ _ (c .before .before .before .before .before .before .before .before .before .before .before .before .before .before .before .before .loop .inv))
@@ -87,10 +83,10 @@ sink-side-requires : tie.Need-sink-side-requires Inv-loop μ-loop
 sink-side-requires c κs = running-sidable _ _ _ _ _ _ _ _ _ _ _ _ _ _ (c .before .before .loop .inv)
 
 same-length-2 : tie.Need-same-length-2 Inv-loop μ-loop
-same-length-2 c = c .before .before .before .loop .inv .size ∙ c .before .before .before .before .before .before .before .before .before .before .before .before .clear .ensures .size
+same-length-2 c = c .before .before .before .loop .inv .size
 
 returns-2 : tie.Need-returns-2 Inv-loop μ-loop
-returns-2 c = running-settled _ _ _ _ _ _ _ _ _ _ _ _ _ _ (c .before .before .before .loop .inv) _ (c .before .before .before .before .before .before .before .before .before .before .before .before .clear .ensures) (c .before .before .loop-test .left) _ _ (c .sink-side .ensures)
+returns-2 c = running-settled _ _ _ _ _ _ _ _ _ _ _ _ _ _ (c .before .before .before .loop .inv) (c .before .before .loop-test .left) _ _ (c .sink-side .ensures)
 
 pub make-rounds-spec : {M : Type 1} → statement M
 make-rounds-spec =
@@ -100,7 +96,6 @@ make-rounds-spec =
     μ-loop
     total-cost-requires
     add-wide
-    clear-requires
     begin-requires
     mul-search
     add-search

@@ -18,14 +18,17 @@ enum-known-answer c = search needs
 enum-known-answer-2 : tie.Need-enum-known-answer-2
 enum-known-answer-2 c = search needs
 
+new-requires : tie.Need-new-requires
+new-requires c κs = search needs
+
 answer-frame-requires : tie.Need-answer-frame-requires
 answer-frame-requires c κs = search needs
 
 returns : tie.Need-returns
 returns c =
-    let v = c .before .before .before .before in
+    let v = c .before .before .before .before .before in
     let s = v .before .before .before .before in
-    absurd (never-refused (s .args .rows .now) (s .args .costs .now) (s .args .t) (s .args .allowance) _ (length-replicate {A = ℕ} 4096 0) (s .pre) _ _ _ (v .verdict .ensures) (c .before .answer .given .1))
+    absurd (never-refused (s .args .rows .now) (s .args .costs .now) (s .args .t) (s .args .allowance) _ (length-replicate {A = ℕ} 4096 0) (s .pre) _ _ _ (v .verdict .ensures) (c .before .before .answer .given .1))
 
 returns-2 : tie.Need-returns-2
 returns-2 c =
@@ -40,6 +43,7 @@ decide-spec =
     slice-aggregate-verdict
     verdict-requires
     enum-known-answer
+    new-requires
     enum-known-answer-2
     answer-frame-requires
     returns

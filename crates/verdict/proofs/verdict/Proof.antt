@@ -1,113 +1,75 @@
--- `verdict::verdict` meets its contract: a chain of checks, each with its refusal, and the decision behind them. Assumes nothing.
+-- `verdict::verdict` meets its contract: the refusal that is due, or the list cleared, and then wait or the decision. Assumes nothing.
 use borrow.Author.Needs.{needs}
 use borrow.Author.Tests.{not-true, not-false}
-use native.Mathlib.Omega.{arith}
-use native.Mathlib.Nat.{mul-le-mul}
 use lib.ListN.{length}
-use Rattle.verdict.specs.Refusals.Fault.{empty, crowded, uneven, short, absent}
-use Rattle.verdict.proofs.CheckLaws.{payable-sum}
-use Rattle.verdict.proofs.CheckedLaws.{Checked, checked-1, checked-2, checked-3, checked-4, checked-5, checked-6, checked-7, checked-8, checked-9, checked-payable, checked-faultless, fault-4, fault-5, fault-7, fault-8, refuse}
+use Rattle.verdict.specs.Refusals.{Faultless}
+use Rattle.verdict.specs.Called.Called.{refuses}
+use Rattle.verdict.proofs.RefusalLaws.{due-refused, due-none, faultless-jobs, faultless-job, faultless-few, faultless-size}
+use Rattle.verdict.proofs.DecideLaws.{through-none, decide-waits, called-cleared, cleared-ringed, cleared-faultless}
 use Rattle.verdict.proofs.verdict.Statement.{statement}
 use Rattle.verdict.proofs.verdict.Tie as tie
 
+refusal-requires : tie.Need-refusal-requires
+refusal-requires c κs = search needs
+
 returns : tie.Need-returns
-returns c = refuse (c .before .before .before .before .args .rows .now) (c .before .before .before .before .args .costs .now) (c .before .before .before .before .args .t) (c .before .before .before .before .args .allowance) (c .before .before .before .before .args .work .now) 1 (checked-1 _ _ _ _) (empty (c .if1 .taken))
+returns c = refuses _ (due-refused _ _ _ _ _ (c .before .refusal .ensures) (c .if1 .taken))
 
-returns-2 : tie.Need-returns-2
-returns-2 c = refuse (c .before .before .before .before .before .args .rows .now) (c .before .before .before .before .before .args .costs .now) (c .before .before .before .before .before .args .t) (c .before .before .before .before .before .args .allowance) (c .before .before .before .before .before .args .work .now) 1 (checked-1 _ _ _ _) (crowded (c .if2 .taken))
+-- behind the refusals there is no fault
+faultless : (c : tie.Else1) → Faultless (c .before .before .before .before .before .args .rows .now) (c .before .before .before .before .before .args .costs .now) (c .before .before .before .before .before .args .t) (length (c .before .before .before .before .before .args .work .now))
+faultless c = due-none _ _ _ _ _ (c .before .refusal .ensures) (c .if1 .left)
 
--- what has been checked behind each test
+clear-requires : tie.Need-clear-requires
+clear-requires c κs = let s = c .before .before .before .before .before .before in (faultless-few (s .args .rows .now) (s .args .costs .now) (s .args .t) _ (faultless (c .before)), faultless-size (s .args .rows .now) (s .args .costs .now) (s .args .t) _ (faultless (c .before)))
 
-passed-2 : (c : tie.Else2) → Checked (c .before .before .before .before .before .args .rows .now) (c .before .before .before .before .before .args .costs .now) (c .before .before .before .before .before .args .t) (length (c .before .before .before .before .before .args .work .now)) 2
-passed-2 c = checked-2 _ _ _ _ (c .before .if1 .left) (c .if2 .left)
+on-rings-requires : tie.Need-on-rings-requires
+on-rings-requires c κs = let e = c .before .before .before .before in let s = e .before .before .before .before .before in (faultless-jobs (s .args .rows .now) (s .args .costs .now) (s .args .t) _ (faultless e), faultless-job (s .args .rows .now) (s .args .costs .now) (s .args .t) _ (faultless e))
 
-passed-3 : (c : tie.Else3) → Checked (c .before .before .before .before .before .before .args .rows .now) (c .before .before .before .before .before .before .args .costs .now) (c .before .before .before .before .before .before .args .t) (length (c .before .before .before .before .before .before .args .work .now)) 3
-passed-3 c = checked-3 _ _ _ _ (passed-2 (c .before)) (c .if3 .left)
-
-passed-4 : (c : tie.Else4) → Checked (c .before .before .before .before .before .before .before .args .rows .now) (c .before .before .before .before .before .before .before .args .costs .now) (c .before .before .before .before .before .before .before .args .t) (length (c .before .before .before .before .before .before .before .args .work .now)) 4
-passed-4 c = checked-4 _ _ _ _ (passed-3 (c .before)) (c .if4 .left)
-
-passed-5 : (c : tie.Else5) → Checked (c .before .before .before .before .before .before .before .before .before .args .rows .now) (c .before .before .before .before .before .before .before .before .before .args .costs .now) (c .before .before .before .before .before .before .before .before .before .args .t) (length (c .before .before .before .before .before .before .before .before .before .args .work .now)) 5
-passed-5 c = checked-5 _ _ _ _ _ (passed-4 (c .before .before)) (c .before .rows-known .ensures) (not-false _ (c .if5 .left))
-
-passed-6 : (c : tie.Else6) → Checked (c .before .before .before .before .before .before .before .before .before .before .before .args .rows .now) (c .before .before .before .before .before .before .before .before .before .before .before .args .costs .now) (c .before .before .before .before .before .before .before .before .before .before .before .args .t) (length (c .before .before .before .before .before .before .before .before .before .before .before .args .work .now)) 6
-passed-6 c = checked-6 _ _ _ _ _ (passed-5 (c .before .before)) (c .before .waits-for-itself .ensures) (c .if6 .left)
-
-passed-7 : (c : tie.Else7) → Checked (c .before .before .before .before .before .before .before .before .before .before .before .before .args .rows .now) (c .before .before .before .before .before .before .before .before .before .before .before .before .args .costs .now) (c .before .before .before .before .before .before .before .before .before .before .before .before .args .t) (length (c .before .before .before .before .before .before .before .before .before .before .before .before .args .work .now)) 7
-passed-7 c = checked-7 _ _ _ _ (passed-6 (c .before)) (c .if7 .left)
-
-passed-8 : (c : tie.Else8) → Checked (c .before .before .before .before .before .before .before .before .before .before .before .before .before .before .args .rows .now) (c .before .before .before .before .before .before .before .before .before .before .before .before .before .before .args .costs .now) (c .before .before .before .before .before .before .before .before .before .before .before .before .before .before .args .t) (length (c .before .before .before .before .before .before .before .before .before .before .before .before .before .before .args .work .now)) 8
-passed-8 c = checked-8 _ _ _ _ _ (passed-7 (c .before .before)) (c .before .costs-stray .ensures) (c .if8 .left)
-
-returns-3 : tie.Need-returns-3
-returns-3 c = refuse (c .before .before .before .before .before .before .args .rows .now) (c .before .before .before .before .before .before .args .costs .now) (c .before .before .before .before .before .before .args .t) (c .before .before .before .before .before .before .args .allowance) (c .before .before .before .before .before .before .args .work .now) 2 (passed-2 (c .before)) (uneven (c .if3 .taken))
-
-mul-if4 : tie.Need-mul-if4
-mul-if4 c = let l = passed-3 c .few (omega arith) in omega (arith, mul-le-mul l l)
-
-returns-4 : tie.Need-returns-4
-returns-4 c = refuse (c .before .before .before .before .before .before .before .args .rows .now) (c .before .before .before .before .before .before .before .args .costs .now) (c .before .before .before .before .before .before .before .args .t) (c .before .before .before .before .before .before .before .args .allowance) (c .before .before .before .before .before .before .before .args .work .now) 3 (passed-3 (c .before)) (short (c .if4 .taken))
-
-rows-known-requires : tie.Need-rows-known-requires
-rows-known-requires c κs = passed-4 c .few (omega arith)
-
-returns-5 : tie.Need-returns-5
-returns-5 c = refuse (c .before .before .before .before .before .before .before .before .before .args .rows .now) (c .before .before .before .before .before .before .before .before .before .args .costs .now) (c .before .before .before .before .before .before .before .before .before .args .t) (c .before .before .before .before .before .before .before .before .before .args .allowance) (c .before .before .before .before .before .before .before .before .before .args .work .now) 4 (passed-4 (c .before .before)) (fault-4 _ _ _ _ _ (c .before .rows-known .ensures) (not-true _ (c .if5 .taken)))
-
-waits-for-itself-requires : tie.Need-waits-for-itself-requires
-waits-for-itself-requires c κs = passed-5 c .few (omega arith)
-
-returns-6 : tie.Need-returns-6
-returns-6 c = refuse (c .before .before .before .before .before .before .before .before .before .before .before .args .rows .now) (c .before .before .before .before .before .before .before .before .before .before .before .args .costs .now) (c .before .before .before .before .before .before .before .before .before .before .before .args .t) (c .before .before .before .before .before .before .before .before .before .before .before .args .allowance) (c .before .before .before .before .before .before .before .before .before .before .before .args .work .now) 5 (passed-5 (c .before .before)) (fault-5 _ _ _ _ _ (c .before .waits-for-itself .ensures) (c .if6 .taken))
-
-returns-7 : tie.Need-returns-7
-returns-7 c = refuse (c .before .before .before .before .before .before .before .before .before .before .before .before .args .rows .now) (c .before .before .before .before .before .before .before .before .before .before .before .before .args .costs .now) (c .before .before .before .before .before .before .before .before .before .before .before .before .args .t) (c .before .before .before .before .before .before .before .before .before .before .before .before .args .allowance) (c .before .before .before .before .before .before .before .before .before .before .before .before .args .work .now) 6 (passed-6 (c .before)) (absent (c .if7 .taken))
-
-costs-stray-requires : tie.Need-costs-stray-requires
-costs-stray-requires c κs = search needs
-
-returns-8 : tie.Need-returns-8
-returns-8 c = refuse (c .before .before .before .before .before .before .before .before .before .before .before .before .before .before .args .rows .now) (c .before .before .before .before .before .before .before .before .before .before .before .before .before .before .args .costs .now) (c .before .before .before .before .before .before .before .before .before .before .before .before .before .before .args .t) (c .before .before .before .before .before .before .before .before .before .before .before .before .before .before .args .allowance) (c .before .before .before .before .before .before .before .before .before .before .before .before .before .before .args .work .now) 7 (passed-7 (c .before .before)) (fault-7 _ _ _ _ _ (passed-7 (c .before .before)) (c .before .costs-stray .ensures) (c .if8 .taken))
-
-sum-of-requires : tie.Need-sum-of-requires
-sum-of-requires c κs = checked-payable _ _ _ _ (passed-8 c)
-
-add-if9 : tie.Need-add-if9
-add-if9 c = let p = checked-payable _ _ _ _ (passed-8 (c .before)) in omega (arith, payable-sum _ p, c .sum-of .ensures)
-
-returns-9 : tie.Need-returns-9
-returns-9 c = refuse (c .before .before .before .before .before .before .before .before .before .before .before .before .before .before .before .before .args .rows .now) (c .before .before .before .before .before .before .before .before .before .before .before .before .before .before .before .before .args .costs .now) (c .before .before .before .before .before .before .before .before .before .before .before .before .before .before .before .before .args .t) (c .before .before .before .before .before .before .before .before .before .before .before .before .before .before .before .before .args .allowance) (c .before .before .before .before .before .before .before .before .before .before .before .before .before .before .before .before .args .work .now) 8 (passed-8 (c .before .before)) (fault-8 _ _ _ _ (passed-8 (c .before .before)) _ (c .before .sum-of .ensures) (c .if9 .taken))
-
-decide-requires : tie.Need-decide-requires
-decide-requires c κs =
-    let e = c .before in
-    checked-faultless _ _ _ _ (checked-9 _ _ _ _ (passed-8 (e .before .before)) _ (e .before .sum-of .ensures) (e .if9 .left))
+ring-through-requires : tie.Need-ring-through-requires
+ring-through-requires c κs = let e = c .before .before .before .before .before in let s = e .before .before .before .before .before in (faultless-job (s .args .rows .now) (s .args .costs .now) (s .args .t) _ (faultless e), c .on-rings .ensures)
 
 same-length : tie.Need-same-length
 same-length c = search needs
 
-returns-10 : tie.Need-returns-10
-returns-10 c = search needs
+returns-2 : tie.Need-returns-2
+returns-2 c =
+    let r = c .before in
+    let k = r .before .before .before .before in
+    let e = k .before .before in
+    let s = e .before .before .before .before .before in
+    called-cleared (s .args .rows .now) (s .args .costs .now) (s .args .t) (s .args .work .now) _ (k .clear .ensures) (s .args .allowance) _ _
+    (decide-waits (s .args .rows .now) (s .args .costs .now) (s .args .t) _ (r .before .on-rings .ensures) _ (cleared-faultless (s .args .rows .now) (s .args .costs .now) (s .args .t) _ _ (k .clear .ensures) (faultless e)) (k .clear .ensures .none) _ (through-none _ _ _ _ (r .ring-through .ensures) (not-true _ (c .if2 .taken))))
+
+decide-requires : tie.Need-decide-requires
+decide-requires c κs =
+    let r = c .before .before in
+    let k = r .before .before .before .before in
+    let e = k .before .before in
+    let s = e .before .before .before .before .before in
+    cleared-ringed (s .args .rows .now) (s .args .costs .now) (s .args .t) _ _ (k .clear .ensures) (faultless e) _ (r .before .on-rings .ensures) _ (r .ring-through .ensures) (not-false _ (c .before .if2 .left))
+
+same-length-2 : tie.Need-same-length-2
+same-length-2 c = search needs
+
+returns-3 : tie.Need-returns-3
+returns-3 c =
+    let d = c .before .before in
+    let k = d .before .before .before .before .before .before .before in
+    let e = k .before .before in
+    let s = e .before .before .before .before .before in
+    called-cleared (s .args .rows .now) (s .args .costs .now) (s .args .t) (s .args .work .now) _ (k .clear .ensures) (s .args .allowance) _ _ (d .decide .ensures)
 
 pub verdict-spec : {M : Type 1} → statement M
 verdict-spec =
     tie.close
     (tie.spec
+    refusal-requires
     returns
-    returns-2
-    returns-3
-    mul-if4
-    returns-4
-    rows-known-requires
-    returns-5
-    waits-for-itself-requires
-    returns-6
-    returns-7
-    costs-stray-requires
-    returns-8
-    sum-of-requires
-    add-if9
-    returns-9
-    decide-requires
+    clear-requires
+    on-rings-requires
+    ring-through-requires
     same-length
-    returns-10)
+    returns-2
+    decide-requires
+    same-length-2
+    returns-3)
