@@ -6,6 +6,7 @@
  *   bench once CONTENDER WORKLOAD PASSES
  *                        makes a workload's calls, for counting instructions
  *   bench stack          bytes of stack that a call uses at most */
+#include "../tests/painted.h"
 #include "contenders.h"
 
 #include <stdio.h>
@@ -141,11 +142,6 @@ static void time_workload(unsigned index, unsigned turns)
 
 /* ---- Stack ---- */
 
-/* A call is made on a stack of its own that was painted before; afterwards the
- * lowest place with another value shows how far down the call went. */
-enum { STACK_BYTES = 1 << 18, PAINT = 0xA5 };
-
-static _Alignas(64) uint8_t stack[STACK_BYTES];
 static const struct contender *chosen;
 static const struct call *chosen_call;
 
@@ -160,32 +156,11 @@ static void make_chosen(void)
     chosen->make(chosen_call, &lent);
 }
 
-/* Calls `make_chosen` on the painted stack: x86-64, for which all is built. */
-static void on_painted_stack(void)
+static size_t depth(const struct contender *c, const struct call *call)
 {
-    __asm__ volatile("movq %%rsp, %%rbx\n\t"
-                     "movq %0, %%rsp\n\t"
-                     "call *%1\n\t"
-                     "movq %%rbx, %%rsp"
-                     :
-                     : "r"(stack + STACK_BYTES), "r"(make_chosen)
-                     : "rax", "rbx", "rcx", "rdx", "rsi", "rdi", "r8", "r9",
-                       "r10", "r11", "xmm0", "xmm1", "xmm2", "xmm3", "xmm4",
-                       "xmm5", "xmm6", "xmm7", "xmm8", "xmm9", "xmm10", "xmm11",
-                       "xmm12", "xmm13", "xmm14", "xmm15", "cc", "memory");
-}
-
-static unsigned depth(const struct contender *c, const struct call *call)
-{
-    unsigned untouched = 0;
     chosen = c;
     chosen_call = call;
-    memset(stack, PAINT, sizeof stack);
-    on_painted_stack();
-    while (untouched < STACK_BYTES && stack[untouched] == PAINT) {
-        untouched++;
-    }
-    return STACK_BYTES - untouched;
+    return stack_of(make_chosen);
 }
 
 static void measure_stack(const char *name, unsigned index)
@@ -193,14 +168,13 @@ static void measure_stack(const char *name, unsigned index)
     const struct contender nothing = {"nothing", false, make_nothing};
     struct workload w = make_workload(index);
     for (unsigned k = 0; k <= PROVED; k++) {
-        unsigned most = 0;
+        size_t most = 0;
         for (unsigned i = 0; i < w.count; i += 10) {
-            depth(&contenders[k], &w.calls[i]); /* binds what it calls */
-            unsigned found = depth(&contenders[k], &w.calls[i]) -
-                             depth(&nothing, &w.calls[i]);
+            size_t found = depth(&contenders[k], &w.calls[i]) -
+                           depth(&nothing, &w.calls[i]);
             most = found > most ? found : most;
         }
-        printf("stack %s %s %u\n", name, contenders[k].name, most);
+        printf("stack %s %s %zu\n", name, contenders[k].name, most);
     }
 }
 

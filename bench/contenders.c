@@ -1,15 +1,9 @@
 #include "contenders.h"
+#include "../include/pasagumdil.h"
 #include "reference.h"
 #ifdef LIBRARIES
 #include "libraries.h"
 #endif
-
-/* The C entry of the proved library. */
-extern uint8_t pasagumdil_verdict(const uint8_t *rows, size_t rows_len,
-                                  const uint8_t *costs, size_t costs_len,
-                                  uint64_t t, uint32_t allowance,
-                                  uint8_t *work, size_t work_len,
-                                  uint8_t *answer, size_t answer_len);
 
 static uint8_t make_reference(const struct call *c, struct lent *lent)
 {

@@ -108,13 +108,15 @@ static unsigned rounds_of(const struct snapshot *s)
     return (unsigned)answer[12] << 8 | answer[13];
 }
 
-static void write_list(const uint64_t *list)
+/* So many numbers a line, each of so many digits at least. */
+static void write_list(const uint64_t *list, unsigned a_line, int digits)
 {
-    printf("        {\n");
+    printf("        {");
     for (unsigned u = 0; u < JOBS; u++) {
-        printf("            0x%016llX,\n", (unsigned long long)list[u]);
+        printf("%s0x%0*llX,", u % a_line == 0 ? "\n            " : " ", digits,
+               (unsigned long long)list[u]);
     }
-    printf("        },\n");
+    printf("\n        },\n");
 }
 
 int main(int argc, char **argv)
@@ -145,8 +147,8 @@ int main(int argc, char **argv)
         }
     }
     printf("    {\n        /* %u rounds */\n", most);
-    write_list(best.rows);
-    write_list(best.costs);
+    write_list(best.rows, 3, 16);
+    write_list(best.costs, 5, 1);
     printf("    },\n");
     return 0;
 }

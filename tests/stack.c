@@ -1,15 +1,12 @@
-/* How much stack a call of the C entry takes: the call runs on a stack of its
- * own that was painted before. Prints the bytes for 8, 16, 32 and 64 jobs, and
- * for a text of 64 jobs, and ends with 1 where a call takes more than
- * PASAGUMDIL_STACK_BYTES. x86-64. */
+/* How much stack a call of the C entry takes. Prints the bytes for 8, 16, 32 and
+ * 64 jobs, and for a text of 64 jobs, and ends with 1 where a call takes more
+ * than PASAGUMDIL_STACK_BYTES. x86-64. */
+#include "painted.h"
 #include "pasagumdil.h"
 
 #include <stdio.h>
 #include <string.h>
 
-enum { STACK = 2 * PASAGUMDIL_STACK_BYTES, PAINT = 0xA7 };
-
-static _Alignas(64) uint8_t stack[STACK];
 static uint8_t rows[512], costs[512], work[32768], answer[22];
 static size_t jobs;
 static char text[4096];
@@ -56,33 +53,6 @@ static void call_text(void)
     pasagumdil_answer((const uint8_t *)text, strlen(text), line, sizeof line);
 }
 
-/* Runs `function` on the painted stack. */
-static void run_there(void (*function)(void))
-{
-    __asm__ volatile("movq %%rsp, %%rbx\n\t"
-                     "movq %0, %%rsp\n\t"
-                     "callq *%1\n\t"
-                     "movq %%rbx, %%rsp"
-                     :
-                     : "r"(stack + STACK), "r"(function)
-                     : "rax", "rbx", "rcx", "rdx", "rsi", "rdi", "r8", "r9",
-                       "r10", "r11", "xmm0", "xmm1", "xmm2", "xmm3", "xmm4",
-                       "xmm5", "xmm6", "xmm7", "cc", "memory");
-}
-
-/* The bytes of stack that `function` takes. */
-static size_t taken_by(void (*function)(void))
-{
-    size_t untouched = 0;
-    run_there(function); /* so that the dynamic linker has found memset() */
-    memset(stack, PAINT, sizeof stack);
-    run_there(function);
-    while (untouched < STACK && stack[untouched] == PAINT) {
-        untouched++;
-    }
-    return STACK - untouched;
-}
-
 int main(void)
 {
     int bad = 0;
@@ -90,12 +60,12 @@ int main(void)
     printf("stack:");
     for (size_t n = 8; n <= 64; n *= 2) {
         make_lists(n);
-        taken = taken_by(call);
+        taken = stack_of(call);
         printf(" %zu bytes for %zu jobs,", taken, n);
         bad |= answer[0] != 3 || taken > PASAGUMDIL_STACK_BYTES;
     }
     make_text();
-    taken = taken_by(call_text);
+    taken = stack_of(call_text);
     printf(" %zu bytes for a text of 64 jobs\n", taken);
     return bad || memcmp(line, "03", 2) != 0 || taken > PASAGUMDIL_STACK_BYTES;
 }

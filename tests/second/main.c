@@ -115,48 +115,47 @@ static uint64_t digest(const uint64_t *list, size_t count)
     return d;
 }
 
-static int mode_calls(void)
+static void show_answer(const struct made_call *call)
 {
     static const char *const outcome[] = {"wait", "abort-t", "abort-others",
                                           "not-yet"};
-    struct numbers line;
-    struct made_call call;
-    while (scan_line(&line)) {
-        make_the_call(&line, &call);
-        if (call.refusal != 0) {
-            printf("refused %d", call.refusal);
-        } else {
-            printf("%s %" PRIX64 " %" PRIX32 " %" PRIX64,
-                   outcome[call.answer.outcome], call.answer.price,
-                   call.answer.rounds, call.answer.victims);
-        }
-        printf(" %016" PRIX64 "\n", digest(call.work, call.n_work));
-        free(call.work);
+    if (call->refusal != 0) {
+        printf("refused %d", call->refusal);
+    } else {
+        printf("%s %" PRIX64 " %" PRIX32 " %" PRIX64,
+               outcome[call->answer.outcome], call->answer.price,
+               call->answer.rounds, call->answer.victims);
     }
-    return 0;
+    printf(" %016" PRIX64 "\n", digest(call->work, call->n_work));
 }
 
-static int mode_flows(void)
+static void show_flows(const struct made_call *call)
+{
+    if (call->refusal != 0) {
+        printf("refused %d", call->refusal);
+    } else if (call->answer.outcome == SECOND_WAIT) {
+        printf("wait");
+    } else {
+        printf("rounds %" PRIX32 " left %s", call->answer.rounds,
+               call->answer.outcome == SECOND_NOT_YET ? "YES" : "NO");
+        for (size_t i = 0; i < call->n_rows * call->n_rows; i++) {
+            if (call->work[i] != 0) {
+                printf(" %zu>%zu:%" PRIX64, i / call->n_rows, i % call->n_rows,
+                       call->work[i]);
+            }
+        }
+    }
+    printf("\n");
+}
+
+/* The modes `calls` and `flows`: makes the call of each line and shows it. */
+static int mode_calls(void (*show)(const struct made_call *call))
 {
     struct numbers line;
     struct made_call call;
     while (scan_line(&line)) {
         make_the_call(&line, &call);
-        if (call.refusal != 0) {
-            printf("refused %d", call.refusal);
-        } else if (call.answer.outcome == SECOND_WAIT) {
-            printf("wait");
-        } else {
-            printf("rounds %" PRIX32 " left %s", call.answer.rounds,
-                   call.answer.outcome == SECOND_NOT_YET ? "YES" : "NO");
-            for (size_t i = 0; i < call.n_rows * call.n_rows; i++) {
-                if (call.work[i] != 0) {
-                    printf(" %zu>%zu:%" PRIX64, i / call.n_rows,
-                           i % call.n_rows, call.work[i]);
-                }
-            }
-        }
-        printf("\n");
+        show(&call);
         free(call.work);
     }
     return 0;
@@ -271,10 +270,10 @@ int main(int words, char **word)
         return mode_answer();
     }
     if (words == 2 && strcmp(mode, "calls") == 0) {
-        return mode_calls();
+        return mode_calls(show_answer);
     }
     if (words == 2 && strcmp(mode, "flows") == 0) {
-        return mode_flows();
+        return mode_calls(show_flows);
     }
     if (words == 2 && strcmp(mode, "graph") == 0) {
         return mode_graph();

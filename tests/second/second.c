@@ -49,36 +49,33 @@ static void close_waits(const uint64_t *rows, size_t n, struct table *table)
     }
 }
 
-uint64_t second_reach(const uint64_t *rows, size_t n, size_t from)
+/* The jobs that `from` reaches along no or more waits; where `and_back`, only
+ * those that also reach it. */
+static uint64_t reached(const uint64_t *rows, size_t n, size_t from,
+                        bool and_back)
 {
     struct table table;
     if (n > SECOND_MOST_JOBS || from >= n) {
         return 0;
     }
     close_waits(rows, n, &table);
-    uint64_t reached = only((unsigned)from);
+    uint64_t jobs = only((unsigned)from);
     for (unsigned job = 0; job < n; job++) {
-        if (table.leads[from][job]) {
-            reached |= only(job);
+        if (table.leads[from][job] && (!and_back || table.leads[job][from])) {
+            jobs |= only(job);
         }
     }
-    return reached;
+    return jobs;
+}
+
+uint64_t second_reach(const uint64_t *rows, size_t n, size_t from)
+{
+    return reached(rows, n, from, false);
 }
 
 uint64_t second_on_rings(const uint64_t *rows, size_t n, size_t t)
 {
-    struct table table;
-    if (n > SECOND_MOST_JOBS || t >= n) {
-        return 0;
-    }
-    close_waits(rows, n, &table);
-    uint64_t x = only((unsigned)t);
-    for (unsigned job = 0; job < n; job++) {
-        if (table.leads[t][job] && table.leads[job][t]) {
-            x |= only(job);
-        }
-    }
-    return x;
+    return reached(rows, n, t, true);
 }
 
 /* ---- The verdict call ---- */
