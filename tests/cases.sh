@@ -1,31 +1,32 @@
 #!/bin/sh
-# What the program of crates/cases must write was worked out by the second program, never by itself:
-# this holds crates/cases/stdout against what the second program says of crates/cases/stdin today.
-# The V lines there are the calls A to L of tests/second/cases.txt and 439 of the calls of `second gen-calls 2026 4000`:
+# What the programs of crates/graphs, crates/rounds and crates/verdicts must write was worked out by the second program, never by
+# themselves: this holds the file stdout of each against what the second program says of its file stdin today.
+# The lines of verdicts are the calls A to L of tests/second/cases.txt and 439 of the calls of `second gen-calls 2026 4000`:
 # each outcome with 64 jobs, sizes between, each refusal from 1 to 7 (8 cannot be met), and short calls as they come.
 #
 #   sh tests/cases.sh           compares
-#   sh tests/cases.sh --write   writes crates/cases/stdout anew
+#   sh tests/cases.sh --write   writes the three files stdout anew
 set -eu
 cd "$(dirname "$0")/.."
 folder=$(mktemp -d)
 trap 'rm -rf "$folder"' EXIT
 "${CC:-cc}" -std=c11 -O2 -o "$folder/second" tests/second/*.c
+write=${1:-}
+differ=
 
-# lines LETTER MODE: the second program's answers to the lines of that letter, in the small digits of the proved program.
-lines() {
-    sed -n "s/^$1 //p" crates/cases/stdin | "$folder/second" "$2" | tr A-Z a-z | sed "s/^/$1 /"
+# hold PROGRAM MODE: the second program's answers to the lines of that program, in its small digits.
+hold() {
+    "$folder/second" "$2" < "crates/$1/stdin" > "$folder/answers"
+    tr A-Z a-z < "$folder/answers" > "$folder/stdout"
+    if [ "$write" = --write ]; then
+        cp "$folder/stdout" "crates/$1/stdout"
+    elif ! diff "$folder/stdout" "crates/$1/stdout"; then
+        echo "crates/$1/stdout is not what the second program says" >&2
+        differ=yes
+    fi
 }
 
-# crates/cases/stdin has the letters in this order.
-{
-    lines G graph
-    lines R flows
-    lines V calls
-} > "$folder/stdout"
-if [ "${1:-}" = --write ]; then
-    cp "$folder/stdout" crates/cases/stdout
-elif ! diff "$folder/stdout" crates/cases/stdout; then
-    echo "crates/cases/stdout is not what the second program says" >&2
-    exit 1
-fi
+hold graphs graph
+hold rounds flows
+hold verdicts calls
+[ -z "$differ" ]

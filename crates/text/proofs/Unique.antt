@@ -1,15 +1,22 @@
 -- Two results that meet the statement of a public function are equal.
 -- Assumes nothing.
 --
---   byte-at-unique, number2-unique, number4-unique, line-length-unique, bad-line-unique, put-digits-unique   of the function of that name
+--   is-digit-unique, digit-value-unique, byte-at-unique, number2-unique, number4-unique, line-length-unique, bad-line-unique, put-digits-unique
+--                      of the function of that name
 use mathlib.Core.Path.{_≡_, sym, _∙_}
 use mathlib.Core.Bool.{Bool}
 use mathlib.Core.List.{List, _++_}
 use Prim.Native.Nat.{ℕ, _+_}
 use lib.ListN.{length, take, drop}
-use Rattle.text.specs.Digits.{byteAt, number}
+use Rattle.text.specs.Digits.{isDigit, digit, byteAt, number}
 use Rattle.text.specs.Line.{lineAt, badLine}
 use Rattle.text.specs.Spell.{spell}
+
+pub is-digit-unique : (c : ℕ) (a b : Bool) → a ≡ isDigit c → b ≡ isDigit c → a ≡ b
+is-digit-unique c a b p q = p ∙ sym q
+
+pub digit-value-unique : (c a b : ℕ) → a ≡ digit c → b ≡ digit c → a ≡ b
+digit-value-unique c a b p q = p ∙ sym q
 
 pub byte-at-unique : (text : List ℕ) (at a b : ℕ) → a ≡ byteAt text at → b ≡ byteAt text at → a ≡ b
 byte-at-unique text at a b p q = p ∙ sym q

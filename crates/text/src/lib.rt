@@ -11,7 +11,7 @@ ghost use Rattle.text.specs.Line.{lineAt, badLine};
 ghost use Rattle.text.specs.Spell.{spelt, spell};
 
 // Whether a byte is a digit, 0-9 or A-F.
-fn is_digit(c: u8) -> bool
+pub fn is_digit(c: u8) -> bool
     ensures { λ r. ⌜ r ≡ isDigit c ⌝ }
 {
     if c < 48 {
@@ -30,7 +30,7 @@ fn is_digit(c: u8) -> bool
 }
 
 // What a digit is worth, 0 for any other byte.
-fn digit_value(c: u8) -> u8
+pub fn digit_value(c: u8) -> u8
     ensures { λ r. ⌜ r ≡ digit c ⌝ }
 {
     if c < 48 {
