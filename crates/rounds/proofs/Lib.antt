@@ -1,1 +1,1 @@
-pub mod TestLaws
+pub mod WorkLaws

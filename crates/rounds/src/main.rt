@@ -1,61 +1,36 @@
-// The rounds of each call of its standard input, made by the flow layer alone, a line each; nothing where a call is not accepted.
+// The rounds of each call of its standard input, made by the flow layer alone, a line each; nothing where a call is refused.
 // A line is R C W T A r1 .. rR c1 .. cC: how many rows, costs and work places, the job T, the allowance, the rows and the costs.
 // R and C are 80 at most, W 6,400; each work place is 5A5A5A5A5A5A5A5A before the call.
 // Numbers are read in capital hexadecimal digits, single spaces between, and written in small ones, jobs in decimal digits.
 // The text has 65,536 bytes at most. A line of more numbers or work places ends the program.
 //
 //   rounds ROUNDS left yes u>v:FLOW ..    how many rounds, whether a path is left, yes or no, and each flow above 0
+use flow::Made;
 use libc::STDIN_FILENO;
 use libc::STDOUT_FILENO;
 use words::words;
-ghost use mathlib.Core.Path.{_≡_};
-ghost use mathlib.Core.Bool.{true};
 ghost use Prim.Native.Nat.{_*_, _<_, _≤_};
 ghost use lib.ListN.{length};
-ghost use Rattle.rounds.specs.Tests.{Fit, Sound};
+ghost use Rattle.bits.specs.Mask.{MaskOf};
+ghost use Rattle.graph.specs.Waits.{waits};
+ghost use Rattle.graph.specs.Rings.{InX};
+ghost use Rattle.flow.specs.Flowed.{Flowed};
+ghost use Rattle.verdict.specs.Refusals.{Faultless};
 
-// No job waits for itself, and each cost is above 0 and at most 2^42.
-fn fit(rows: &[u64], costs: &[u64]) -> bool
-    requires { ⌜ (length (now rows) ≤ 64) × (length (now costs) ≡ length (now rows)) ⌝ }
-    ensures { λ r. ⌜ (r ≡ true → Fit (now (rows .entry)) (now (costs .entry))) ⌝ }
+// The rounds of a call without faults, where x is X.
+fn rounds_of(
+    rows: &[u64],
+    costs: &[u64],
+    t: usize,
+    x: u64,
+    allowance: u32,
+    work: &mut [u64],
+) -> Made
+    requires { ⌜ Faultless (now rows) (now costs) t (length (now work)) × MaskOf (InX (waits (now rows)) (length (now rows)) t) x ⌝ }
+    ensures { λ r. ⌜ Flowed (now (rows .entry)) (now (costs .entry)) t x allowance (now (work .entry)) (now (work .exit)) (r .rounds) (r .left) (r .ins) (r .outs) ⌝ }
 {
-    let mut u = 0usize;
-    while u < rows.len() {
-        if (rows[u] >> u) % 2 == 1 {
-            return false;
-        }
-        if costs[u] == 0 {
-            return false;
-        }
-        if costs[u] > 4398046511104 {
-            return false;
-        }
-        u += 1;
-    }
-    true
-}
-
-// Whether a call passes all tests.
-fn sound(rows: &[u64], costs: &[u64], t: usize, places: usize) -> bool
-    ensures { λ r. ⌜ (r ≡ true → Sound (now (rows .entry)) (now (costs .entry)) t places) ⌝ }
-{
-    let n = rows.len();
-    if n > 64 {
-        return false;
-    }
-    if costs.len() != n {
-        return false;
-    }
-    if places < n * n {
-        return false;
-    }
-    if t >= n {
-        return false;
-    }
-    if !graph::rows_known(rows) {
-        return false;
-    }
-    fit(rows, costs)
+    flow::clear(work, rows.len());
+    flow::make_rounds(rows, costs, t, x, allowance, work)
 }
 
 // Writes one flow, on the wait of place i.
@@ -85,7 +60,7 @@ fn print_flows(work: &[u64], n: usize)
 }
 
 // Writes what the rounds came to.
-fn print_made(made: flow::Made) {
+fn print_made(made: Made) {
     io::write_all(STDOUT_FILENO, b"rounds ");
     io::print_hex(STDOUT_FILENO, made.rounds as u64, 1);
     if made.left {
@@ -95,16 +70,16 @@ fn print_made(made: flow::Made) {
     io::write_all(STDOUT_FILENO, b" left no");
 }
 
-// Makes the rounds of a call with so many work places and writes what they came to; nothing where the call is not accepted.
+// Makes the rounds of a call with so many work places and writes what they came to; nothing where the call is refused.
 fn print_rounds(rows: &[u64], costs: &[u64], t: usize, allowance: u32, places: usize)
     requires { ⌜ places ≤ 6400 ⌝ }
 {
-    if !sound(rows, costs, t, places) {
+    if verdict::refusal(rows, costs, t, places) != 0 {
         return;
     }
     let x = graph::on_rings(rows, t);
     let mut work = [6510615555426900570u64; 6400];
-    let made = flow::make_rounds(rows, costs, t, x, allowance, &mut work[..places]);
+    let made = rounds_of(rows, costs, t, x, allowance, &mut work[..places]);
     print_made(made);
     print_flows(&work[..places], rows.len());
     io::write_all(STDOUT_FILENO, b"\n");
