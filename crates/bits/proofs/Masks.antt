@@ -8,7 +8,7 @@
 --   has-pow-cases, has-full                what 2 ^ u and 2 ^ j - 1 hold
 --   or-le, or-grows                        a | b as a number
 --   mask-ext, mask-unique                  masks that hold the same are equal; two masks of P are equal
---   mask-same, mask-and, mask-or           a mask of what is the same, of both, of one of two
+--   mask-same, mask-or                     a mask of what is the same, of one of two
 use mathlib.Core.Path.{_≡_, refl, sym, ap, _∙_, subst}
 use mathlib.Core.Logic.{_⊎_, inl, inr, ⊎-elim}
 use Prim.Native.Nat.{ℕ, zero, suc, _+_, _-_, _*_, _/_, _%_, _^_, _≤_, _<_, max}
@@ -138,14 +138,6 @@ pub mask-same : (P Q : ℕ → Type 0) (m : ℕ) → MaskOf P m → ((v : ℕ) �
 mask-same P Q m p f g = record { small = p .small; sound = λ v h. f v (p .sound v h); complete = λ v q. p .complete v (g v q) }
 
 -- a & b holds what both hold
-pub mask-and : (P Q : ℕ → Type 0) (a b : ℕ) → MaskOf P a → MaskOf Q b → MaskOf (λ (k : ℕ). P k × Q k) (bitAnd a b)
-mask-and P Q a b p q = record {
-  small = and-lt 64 a b (p .small) (q .small);
-  sound = λ k h. (p .sound k (has-and a b k h .0), q .sound k (has-and a b k h .1));
-  complete = λ k h. and-has a b k (p .complete k (h .0)) (q .complete k (h .1));
-}
-
--- a | b holds what one of them holds
 pub mask-or : (P Q : ℕ → Type 0) (a b : ℕ) → MaskOf P a → MaskOf Q b → MaskOf (λ (k : ℕ). P k ⊎ Q k) (bitOr a b)
 mask-or P Q a b p q = record {
   small = or-lt 64 a b (p .small) (q .small);

@@ -2,7 +2,6 @@
 -- Assumes nothing.
 --
 --   answer-bytes    what the fields written one behind another make
---   answer-length   an answer frame has 22 bytes
 use mathlib.Core.Path.{_≡_, refl, sym, ap, _∙_}
 use mathlib.Core.List.{List, [], _∷_, _++_}
 use Prim.Native.Nat.{ℕ, _+_, _/_, _%_, _^_, _<_, _≤_}
@@ -24,10 +23,6 @@ longer pre a k x e = let p = length-append pre (bytesOf k x) in let q = bytes-le
 byte-one : (x : ℕ) → x < 256 → bytesOf 1 x ≡ x ∷ []
 unfolding bytesOf
 byte-one x l = let e : x / 1 % 256 ≡ x = rw (div-one x) (omega arith) in ap (λ (z : ℕ). z ∷ []) e
-
-pub answer-length : (a : Answer) → length (answerBytes a) ≡ 22
-unfolding answerBytes bytesOf
-answer-length a = refl
 
 pub answer-bytes : (d l₃ l₄ l₅ : List ℕ) (a : Answer) → 22 ≤ length d → a .outcome < 256
     → l₃ ≡ take 2 (set (set d 0 3) 1 (a .outcome)) ++ bytesOf 8 (a .price) ++ drop 10 (set (set d 0 3) 1 (a .outcome))

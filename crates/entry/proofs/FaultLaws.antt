@@ -2,7 +2,6 @@
 -- Assumes nothing.
 --
 --   count                    n, the number of rows: the numbers of a list of bytes are an eighth of them
---   entry-range              refusals have the numbers 1 to 8
 --   refusal-unique           no two refusals are due
 --   Passed .. m              the byte checks of the refusals before m were passed, m at most 3
 --   passed-1 .. passed-3     one check more
@@ -51,12 +50,6 @@ pub record Passed (rows costs : List ℕ) (m : ℕ) : Type 0 where
   pub priced : 2 < m → length costs ≡ length rows
 
 module _ (rows costs : List ℕ) (τ work answer : ℕ) where
-  pub entry-range : (k : ℕ) → EntryFault rows costs τ work answer k → (0 < k) × (k ≤ 8)
-  entry-range k (brokenRows e) = (omega arith, omega arith)
-  entry-range k (brokenCosts e) = (omega arith, omega arith)
-  entry-range k (narrow l) = (omega arith, omega arith)
-  entry-range k (ofNumbers j f) = fault-range (numbersOf rows) (numbersOf costs) τ (work / 8) j f
-
   pub refusal-unique : (j k : ℕ) → EntryRefusal rows costs τ work answer j → EntryRefusal rows costs τ work answer k → j ≡ k
   refusal-unique j k a b = go (decLt j k) (decLt k j)
     where

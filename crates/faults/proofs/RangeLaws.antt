@@ -16,7 +16,7 @@ use native.Mathlib.Omega.{arith}
 use borrow.Author.Tests.{leb-true, leb-false, ltb-true, ltb-false, eqb-true, eqb-false, not-false}
 use lib.Dec.{leb, ltb, eqb}
 use lib.ListN.{length}
-use Rattle.text.specs.Tests.{within}
+use Rattle.text.specs.Tests.{between}
 use Rattle.text.specs.Line.{lineAt}
 use Rattle.cursor.specs.Order.{_then_, _when_}
 use Rattle.cursor.proofs.OrderLaws.{then-zero, when-zero, frame-length}
@@ -37,8 +37,8 @@ or-false : (a b : Bool) → (a || b) ≡ false → (a ≡ false) × (b ≡ false
 or-false true b e = absurd (true≢false e)
 or-false false b e = (refl, e)
 
-within-true : (low high x : ℕ) → within low high x ≡ true → (low ≤ x) × (x ≤ high)
-within-true low high x e = let b = and-true (leb low x) (leb x high) e in (leb-true _ _ (b .0), leb-true _ _ (b .1))
+between-true : (low high x : ℕ) → between low high x ≡ true → (low ≤ x) × (x ≤ high)
+between-true low high x e = let b = and-true (leb low x) (leb x high) e in (leb-true _ _ (b .0), leb-true _ _ (b .1))
 
 pub record Ranged (h : Header) : Type 0 where
   pub a : (1 ≤ h .a) × (h .a ≤ 1000)
@@ -51,14 +51,14 @@ ranged : (h : Header) → inRange h ≡ true → Ranged h
 unfolding inRange
 ranged h e =
     let t = and-true _ (ltb (h .t) (h .n)) e in
-    let s = and-true _ (within 1 16 (h .s)) (t .0) in
-    let n = and-true _ (within 1 64 (h .n)) (s .0) in
-    let b = and-true (within 1 1000 (h .a)) (within 0 1000 (h .b)) (n .0) in
+    let s = and-true _ (between 1 16 (h .s)) (t .0) in
+    let n = and-true _ (between 1 64 (h .n)) (s .0) in
+    let b = and-true (between 1 1000 (h .a)) (between 0 1000 (h .b)) (n .0) in
     record {
-      a = within-true 1 1000 _ (b .0);
-      b = within-true 0 1000 _ (b .1) .1;
-      n = within-true 1 64 _ (n .1);
-      s = within-true 1 16 _ (s .1);
+      a = between-true 1 1000 _ (b .0);
+      b = between-true 0 1000 _ (b .1) .1;
+      n = between-true 1 64 _ (n .1);
+      s = between-true 1 16 _ (s .1);
       t = ltb-true _ _ (t .1);
     }
 

@@ -30,7 +30,7 @@ use Rattle.network.proofs.PushLaws.{room-at}
 use Rattle.network.proofs.ArcLaws.{net-job, net-in, net-wait, net-out, net-unused}
 use Rattle.search.specs.Masks.{at, masked}
 use Rattle.search.proofs.MaskSteps.{step-parts, step-made}
-use Rattle.flow.specs.Accepted.{costOf, Accepted}
+use Rattle.flow.specs.Accepted.{costAt, Accepted}
 use Rattle.flow.specs.Inside.{startMask, Begun}
 use Rattle.flow.proofs.HeldLaws.{Framed, Held}
 use Rattle.flow.proofs.ShownLaws.{Shown}
@@ -40,10 +40,10 @@ abbrev pub arcOf : List ℕ → ℕ → ℕ → ℕ → Bool
 arcOf rows x = within (waits rows) (has x)
 
 abbrev pub jobOf : List ℕ → ℕ → ℕ → ℕ → ℕ
-jobOf costs τ x = jobCapacity (has x) τ (costOf costs)
+jobOf costs τ x = jobCapacity (has x) τ (costAt costs)
 
 abbrev pub wideOf : List ℕ → ℕ → ℕ
-wideOf costs x = suc (total (length costs) (has x) (costOf costs))
+wideOf costs x = suc (total (length costs) (has x) (costAt costs))
 
 abbrev pub netOf : List ℕ → List ℕ → ℕ → ℕ → Room
 netOf rows costs τ x = net (arcOf rows x) (jobOf costs τ x) (wideOf costs x)
@@ -72,42 +72,42 @@ module _ (rows costs : List ℕ) (τ x : ℕ) (F : List ℕ) (A : Accepted rows 
   arc-apart u l t = A .apart u (arc-parts u u t .0)
 
   -- a job with an arc is of X, and is not T
-  job-parts : (u : ℕ) → 0 < jobOf costs τ x u → Has x u × (u ≢ τ) × (jobOf costs τ x u ≡ costOf costs u)
+  job-parts : (u : ℕ) → 0 < jobOf costs τ x u → Has x u × (u ≢ τ) × (jobOf costs τ x u ≡ costAt costs u)
   unfolding jobCapacity
   job-parts u l = go (tested (both (has x u) (not (eqb u τ))))
     where
-      go : T (both (has x u) (not (eqb u τ))) ⊎ (T (both (has x u) (not (eqb u τ))) → ⊥) → Has x u × (u ≢ τ) × (gate (both (has x u) (not (eqb u τ))) (costOf costs u) ≡ costOf costs u)
+      go : T (both (has x u) (not (eqb u τ))) ⊎ (T (both (has x u) (not (eqb u τ))) → ⊥) → Has x u × (u ≢ τ) × (gate (both (has x u) (not (eqb u τ))) (costAt costs u) ≡ costAt costs u)
       go (inl t) = (
         test-has x u (both-left (has x u) (not (eqb u τ)) t),
         test-ne u τ (both-right (has x u) (not (eqb u τ)) t),
-        gate-on (both (has x u) (not (eqb u τ))) (costOf costs u) t,
+        gate-on (both (has x u) (not (eqb u τ))) (costAt costs u) t,
       )
-      go (inr t) = absurd (omega (arith, l, gate-off (both (has x u) (not (eqb u τ))) (costOf costs u) t))
+      go (inr t) = absurd (omega (arith, l, gate-off (both (has x u) (not (eqb u τ))) (costAt costs u) t))
 
   job-made : (u : ℕ) → Has x u → u ≢ τ → 0 < jobOf costs τ x u
   unfolding jobCapacity
   job-made u h ne = omega (
     arith,
-    gate-on (both (has x u) (not (eqb u τ))) (costOf costs u) (both-intro (has x u) (not (eqb u τ)) (has-test x u h) (ne-test u τ ne)),
+    gate-on (both (has x u) (not (eqb u τ))) (costAt costs u) (both-intro (has x u) (not (eqb u τ)) (has-test x u h) (ne-test u τ ne)),
     A .positive u (A .members u h),
   )
 
-  pub total-small : suc (total (length costs) (has x) (costOf costs)) ≤ 2 ^ 63
+  pub total-small : suc (total (length costs) (has x) (costAt costs)) ≤ 2 ^ 63
   unfolding total
   total-small = omega (
     arith,
     A .bounded,
-    sum-mono (length costs) (λ u. gate (has x u) (costOf costs u)) (λ u. costOf costs u) (λ u l. gate-le (has x u) (costOf costs u)),
-    ap (λ (z : ℕ). sum z (λ u. costOf costs u)) (A .priced),
+    sum-mono (length costs) (λ u. gate (has x u) (costAt costs u)) (λ u. costAt costs u) (λ u l. gate-le (has x u) (costAt costs u)),
+    ap (λ (z : ℕ). sum z (λ u. costAt costs u)) (A .priced),
   )
 
   pub framed : Framed (arcOf rows x) (jobOf costs τ x) (wideOf costs x) costs
-  unfolding costOf
+  unfolding costAt
   framed = record {
     few = accepted-few;
     apart = arc-apart;
     priced = λ u l pos. job-parts u pos .2;
-    small = λ u l. omega (arith, A .bounded, sum-term (length rows) (costOf costs) u (omega (arith, A .priced)));
+    small = λ u l. omega (arith, A .bounded, sum-term (length rows) (costAt costs) u (omega (arith, A .priced)));
     bound = omega (arith, total-small);
   }
 

@@ -24,14 +24,14 @@ use Rattle.sums.specs.Sum.{sum, gate}
 use Rattle.sums.proofs.TestLaws.{T-eq}
 use Rattle.sums.proofs.SumLaws.{gate-on, gate-off, sum-point, sum-zero}
 use Rattle.network.specs.Arcs.{total}
-use Rattle.flow.specs.Accepted.{costOf}
+use Rattle.flow.specs.Accepted.{costAt}
 use Rattle.flow.specs.Inflow.{inflowOf, Summable}
 use Rattle.flow.specs.Inside.{Costed}
 
 pub record Totalling (costs : List ℕ) (x rest acc : ℕ) : Type 0 where
   pub given : Costed costs x
   pub rest-part : Rest x rest
-  pub so-far : acc + total (length costs) (has rest) (costOf costs) ≡ total (length costs) (has x) (costOf costs)
+  pub so-far : acc + total (length costs) (has rest) (costAt costs) ≡ total (length costs) (has x) (costAt costs)
 
 pub total-start : (costs : List ℕ) (x : ℕ) → Costed costs x → x < 2 ^ 64 → Totalling costs x x 0
 total-start costs x C l = record { given = C; rest-part = rest-start x l; so-far = omega arith }
@@ -48,12 +48,12 @@ module _ (costs : List ℕ) (x rest acc : ℕ) (A : Totalling costs x rest acc) 
     total-less = rest-less x rest (A .rest-part) some
 
     -- the lowest job's cost is one term
-    term : total (length costs) (has rest) (costOf costs) ≡ total (length costs) (has (bitAnd rest (rest - 1))) (costOf costs) + costOf costs (trailingZeros 64 rest)
+    term : total (length costs) (has rest) (costAt costs) ≡ total (length costs) (has (bitAnd rest (rest - 1))) (costAt costs) + costAt costs (trailingZeros 64 rest)
     unfolding total
     term = omega (
       arith,
-      sum-point (length costs) (λ u. gate (has rest u) (costOf costs u)) (λ u. gate (has (bitAnd rest (rest - 1)) u) (costOf costs u))
-          (trailingZeros 64 rest) 0 (costOf costs (trailingZeros 64 rest)) total-job (λ u l ne. ap (λ (b : _). gate b (costOf costs u)) (same u ne)) here,
+      sum-point (length costs) (λ u. gate (has rest u) (costAt costs u)) (λ u. gate (has (bitAnd rest (rest - 1)) u) (costAt costs u))
+          (trailingZeros 64 rest) 0 (costAt costs (trailingZeros 64 rest)) total-job (λ u l ne. ap (λ (b : _). gate b (costAt costs u)) (same u ne)) here,
     )
       where
         same : (u : ℕ) → u ≢ trailingZeros 64 rest → has rest u ≡ has (bitAnd rest (rest - 1)) u
@@ -65,29 +65,29 @@ module _ (costs : List ℕ) (x rest acc : ℕ) (A : Totalling costs x rest acc) 
             stays (inl e) = absurd (ne e)
             stays (inr h) = h
 
-        here : gate (has rest (trailingZeros 64 rest)) (costOf costs (trailingZeros 64 rest)) + 0
-            ≡ gate (has (bitAnd rest (rest - 1)) (trailingZeros 64 rest)) (costOf costs (trailingZeros 64 rest)) + costOf costs (trailingZeros 64 rest)
+        here : gate (has rest (trailingZeros 64 rest)) (costAt costs (trailingZeros 64 rest)) + 0
+            ≡ gate (has (bitAnd rest (rest - 1)) (trailingZeros 64 rest)) (costAt costs (trailingZeros 64 rest)) + costAt costs (trailingZeros 64 rest)
         here = omega (
           arith,
-          gate-on (has rest (trailingZeros 64 rest)) (costOf costs (trailingZeros 64 rest)) (has-test rest (trailingZeros 64 rest) (rest-here x rest (A .rest-part) some)),
-          gate-off (has (bitAnd rest (rest - 1)) (trailingZeros 64 rest)) (costOf costs (trailingZeros 64 rest))
+          gate-on (has rest (trailingZeros 64 rest)) (costAt costs (trailingZeros 64 rest)) (has-test rest (trailingZeros 64 rest) (rest-here x rest (A .rest-part) some)),
+          gate-off (has (bitAnd rest (rest - 1)) (trailingZeros 64 rest)) (costAt costs (trailingZeros 64 rest))
               (λ t. rest-gone x rest (A .rest-part) some (trailingZeros 64 rest) (test-has (bitAnd rest (rest - 1)) (trailingZeros 64 rest) t) .1 refl),
         )
 
     pub total-fits : acc + getD costs (trailingZeros 64 rest) 0 < 2 ^ 64
-    unfolding costOf
+    unfolding costAt
     total-fits = omega (arith, A .so-far, term, A .given .bounded)
 
     pub total-turn : Totalling costs x (bitAnd rest (rest - 1)) (acc + getD costs (trailingZeros 64 rest) 0)
-    unfolding costOf
+    unfolding costAt
     total-turn = record { given = A .given; rest-part = rest-next x rest (A .rest-part) some; so-far = omega (arith, A .so-far, term) }
 
-  pub total-end : rest ≡ 0 → acc ≡ total (length costs) (has x) (costOf costs)
+  pub total-end : rest ≡ 0 → acc ≡ total (length costs) (has x) (costAt costs)
   unfolding total
   total-end z = omega (arith, A .so-far, nothing)
     where
-      nothing : total (length costs) (has rest) (costOf costs) ≡ 0
-      nothing = sum-zero (length costs) (λ u. gate (has rest u) (costOf costs u)) (λ u l. gate-off (has rest u) (costOf costs u) (λ t. rest-end rest u z (test-has rest u t)))
+      nothing : total (length costs) (has rest) (costAt costs) ≡ 0
+      nothing = sum-zero (length costs) (λ u. gate (has rest u) (costAt costs u)) (λ u l. gate-off (has rest u) (costAt costs u) (λ t. rest-end rest u z (test-has rest u t)))
 
 -- ---- what flows into one job
 

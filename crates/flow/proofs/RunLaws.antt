@@ -30,7 +30,7 @@ use Rattle.search.specs.Masks.{at, masked}
 use Rattle.search.specs.Sought.{Ready, Path, Sought}
 use Rattle.push.specs.Way.{Way, Measurable, Amount, Pushable, PushedAlong}
 use Rattle.side.specs.Home.{Sidable, Sided}
-use Rattle.flow.specs.Accepted.{costOf, Accepted}
+use Rattle.flow.specs.Accepted.{costAt, Accepted}
 use Rattle.flow.specs.Flowed.{Ends, Flowed}
 use Rattle.flow.specs.Flowed.Ends.{settled, unfinished}
 use Rattle.flow.specs.Inside.{Costed, Beginnable, Begun}
@@ -81,7 +81,7 @@ accepted-beginnable rows costs τ x F S A L eL eS = record {
 }
 
 pub running-start : (rows costs : List ℕ) (τ x allowance wide : ℕ) (F G S qs ps : List ℕ) (e sum : ℕ) → Accepted rows costs τ x F
-    → sum ≡ total (length costs) (has x) (costOf costs) → wide ≡ sum + 1 → (L : ℕ) → L ≡ 64 → G ≡ replicate L 0 → Begun rows τ x S
+    → sum ≡ total (length costs) (has x) (costAt costs) → wide ≡ sum + 1 → (L : ℕ) → L ≡ 64 → G ≡ replicate L 0 → Begun rows τ x S
     → (qs₀ ps₀ : List ℕ) → Sought S (2 * τ + 1) (2 * τ) qs₀ ps₀ qs ps e → Running rows costs τ x allowance wide F F G S qs ps 0 e
 running-start rows costs τ x allowance wide F G S qs ps e sum A es ew L eL eG B qs₀ ps₀ Q = record {
   accepted = A;
@@ -187,7 +187,7 @@ module _ (rows costs : List ℕ) (τ x allowance wide : ℕ) (before F G S qs ps
   unfolding capacity
   ending n en er left ins outs E = record {
     room = R .room;
-    made = subst (λ (z : ℕ). Rounds (2 * z) (out τ) (inn τ) (capacity (waits rows) (has x) z τ (costOf costs)) k (R .room)) (en ∙ er) (R .made);
+    made = subst (λ (z : ℕ). Rounds (2 * z) (out τ) (inn τ) (capacity (waits rows) (has x) z τ (costAt costs)) k (R .room)) (en ∙ er) (R .made);
     limit = R .limit;
     ends = subst (λ (z : ℕ). Ends (R .room) z τ k allowance left ins outs) (en ∙ er) E;
     flow = subst (λ (z : ℕ). (u v : ℕ) → u < z → v < z → getD F (u * z + v) 0 ≡ gate (within (waits rows) (has x) u v) (R .room (inn v) (out u))) (en ∙ er) (R .held .wait);

@@ -1,7 +1,7 @@
 -- What the rounds are made on: an accepted graph with its costs, the timed-out job τ (the document's T), and a set of jobs x, the document's X.
 -- The checks of a verdict call (document 01, refusals 1 to 8) and the graph layer's X give every field.
 --
---   costOf costs u                    job u's cost
+--   costAt costs u                    job u's cost
 --   Accepted rows costs τ x work      what the public call of this layer requires
 use mathlib.Core.Path.{_≡_}
 use mathlib.Core.List.{List}
@@ -12,8 +12,8 @@ use Rattle.bits.specs.Mask.{Has}
 use Rattle.sums.specs.Sum.{sum}
 use Rattle.graph.specs.Waits.{waits, Jobs}
 
-unfoldable pub costOf : List ℕ → ℕ → ℕ
-costOf costs u = getD costs u 0
+unfoldable pub costAt : List ℕ → ℕ → ℕ
+costAt costs u = getD costs u 0
 
 pub record Accepted (rows costs : List ℕ) (τ x : ℕ) (work : List ℕ) : Type 0 where
   -- at most 64 jobs, no row names a job n or above, no job waits for itself
@@ -21,8 +21,8 @@ pub record Accepted (rows costs : List ℕ) (τ x : ℕ) (work : List ℕ) : Typ
   pub apart : (u : ℕ) → T (waits rows u u) → ⊥
   -- a cost above 0 for each job, and their sum plus one at most 2 ^ 63
   pub priced : length costs ≡ length rows
-  pub positive : (u : ℕ) → u < length rows → 0 < costOf costs u
-  pub bounded : suc (sum (length rows) (costOf costs)) ≤ 2 ^ 63
+  pub positive : (u : ℕ) → u < length rows → 0 < costAt costs u
+  pub bounded : suc (sum (length rows) (costAt costs)) ≤ 2 ^ 63
   -- T and the jobs of the set x are jobs of the list
   pub job : τ < length rows
   pub member : Has x τ

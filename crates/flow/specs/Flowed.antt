@@ -14,13 +14,12 @@ use mathlib.Core.List.{List}
 use Prim.Native.Nat.{ℕ, _+_, _*_, _<_, _≤_}
 use lib.ListN.{length, getD}
 use Rattle.bits.specs.Mask.{has, MaskOf}
-use Rattle.sums.specs.Sum.{gate}
 use Rattle.walks.specs.Walk.{Reaches}
 use Rattle.graph.specs.Waits.{waits}
 use Rattle.network.specs.Rooms.{Room, step}
 use Rattle.network.specs.Rounds.{Rounds, Stuck}
-use Rattle.network.specs.Arcs.{inn, out, within, capacity}
-use Rattle.flow.specs.Accepted.{costOf}
+use Rattle.network.specs.Arcs.{inn, out, flowOn, within, capacity}
+use Rattle.flow.specs.Accepted.{costAt}
 
 pub record Side (r : Room) (n τ : ℕ) (node : ℕ → ℕ) (u : ℕ) : Type 0 where
   pub job : u < n
@@ -34,13 +33,12 @@ pub data Ends (r : Room) (n τ k allowance : ℕ) : Bool → ℕ → ℕ → Typ
 pub record Flowed (rows costs : List ℕ) (τ x allowance : ℕ) (before after : List ℕ) (k : ℕ) (left : Bool) (ins outs : ℕ) : Type 0 where
   -- the rooms after the rounds
   pub room : Room
-  pub made : Rounds (2 * length rows) (out τ) (inn τ) (capacity (waits rows) (has x) (length rows) τ (costOf costs)) k room
+  pub made : Rounds (2 * length rows) (out τ) (inn τ) (capacity (waits rows) (has x) (length rows) τ (costAt costs)) k room
   pub limit : k ≤ allowance
   pub ends : Ends room (length rows) τ k allowance left ins outs
-  -- "place u × n + v of the work list holds the flow on the wait from u to v after the counted rounds, 0 where there is no such wait within X":
-  -- the flow on an arc is the room back along it
+  -- "place u × n + v of the work list holds the flow on the wait from u to v after the counted rounds, 0 where there is no such wait within X"
   pub flow : (u v : ℕ) → u < length rows → v < length rows
-      → getD after (u * length rows + v) 0 ≡ gate (within (waits rows) (has x) u v) (room (inn v) (out u))
+      → getD after (u * length rows + v) 0 ≡ flowOn (within (waits rows) (has x)) room u v
   -- "Places from n × n on keep their values"
   pub size : length after ≡ length before
   pub rest : (i : ℕ) → length rows * length rows ≤ i → getD after i 0 ≡ getD before i 0

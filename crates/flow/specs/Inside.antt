@@ -17,11 +17,11 @@ use Rattle.sums.specs.Sum.{gate}
 use Rattle.network.specs.Rooms.{pick}
 use Rattle.network.specs.Arcs.{total}
 use Rattle.search.specs.Masks.{at}
-use Rattle.flow.specs.Accepted.{costOf}
+use Rattle.flow.specs.Accepted.{costAt}
 
 pub record Costed (costs : List ℕ) (x : ℕ) : Type 0 where
   pub members : (u : ℕ) → Has x u → u < length costs
-  pub bounded : total (length costs) (has x) (costOf costs) < 2 ^ 64
+  pub bounded : total (length costs) (has x) (costAt costs) < 2 ^ 64
 
 unfoldable pub startMask : List ℕ → ℕ → ℕ → ℕ → ℕ
 unfolding has

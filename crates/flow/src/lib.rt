@@ -6,7 +6,7 @@ ghost use Prim.Native.Nat.{_*_, _≤_};
 ghost use lib.ListN.{length};
 ghost use Rattle.bits.specs.Mask.{has};
 ghost use Rattle.network.specs.Arcs.{total};
-ghost use Rattle.flow.specs.Accepted.{costOf, Accepted};
+ghost use Rattle.flow.specs.Accepted.{costAt, Accepted};
 ghost use Rattle.flow.specs.Flowed.{Flowed};
 ghost use Rattle.flow.specs.Inflow.{inflowOf, Summable};
 ghost use Rattle.flow.specs.Cleared.{Cleared};
@@ -26,7 +26,7 @@ pub struct Made {
 // S, the sum of the costs of the jobs of x.
 fn total_cost(costs: &[u64], x: u64) -> u64
     requires { ⌜ Costed (now costs) x ⌝ }
-    ensures { λ r. ⌜ r ≡ total (length (now (costs .entry))) (has x) (costOf (now (costs .entry))) ⌝ }
+    ensures { λ r. ⌜ r ≡ total (length (now (costs .entry))) (has x) (costAt (now (costs .entry))) ⌝ }
 {
     let mut rest = x;
     let mut sum = 0u64;

@@ -2,7 +2,7 @@
 --
 --   answered outcome price rounds victims   the answer with these fields
 --   refused number line                     refusal `number` at `line`
---   accepted                                no refusal: number 0 and line 0
+--   noRefusal                               no refusal: number 0 and line 0
 use Prim.Native.Nat.{ℕ}
 use Rattle.frames.specs.declared.Answer.{Answer}
 use Rattle.frames.specs.declared.Refusal.{Refusal}
@@ -13,5 +13,5 @@ answered outcome price rounds victims = record { outcome = outcome; price = pric
 abbrev pub refused : ℕ → ℕ → Refusal
 refused number line = record { number = number; line = line }
 
-abbrev pub accepted : Refusal
-accepted = refused 0 0
+abbrev pub noRefusal : Refusal
+noRefusal = refused 0 0

@@ -15,7 +15,6 @@
 --   cut-wait              a cut that a wait crosses holds its capacity
 --   job-cost, job-member, job-total    a job's capacity in the document's network is at most its cost, its cost if it is of X, and S
 --   job-sink              T has none
---   total-costs           S is at most the sum of all costs
 use mathlib.Core.Path.{_≡_, refl, ap, _∙_, subst}
 use mathlib.Core.Logic.{_⊎_, inl, inr, _≢_}
 use mathlib.Core.Bool.{Bool, true, false, not}
@@ -28,7 +27,7 @@ use Rattle.sums.specs.Sum.{sum, gate}
 use Rattle.sums.proofs.TestLaws.{both-intro, both-left, both-right, tested, eqb-on, eqb-off}
 use Rattle.sums.proofs.SumLaws.{gate-on, gate-off, gate-le, sum-cong, sum-zero, sum-mono, sum-term, sum-single, sum-pairs}
 use Rattle.sums.proofs.DoubleSums.{dsum, dsum-term}
-use Rattle.network.specs.Arcs.{inn, out, total, jobCapacity, net}
+use Rattle.network.specs.Arcs.{inn, out, flowOn, total, jobCapacity, net}
 use Rattle.network.proofs.CutLaws.{cut}
 
 pub node-cases : (n a : ℕ) → a < 2 * n → (u : ℕ) × (u < n) × ((a ≡ inn u) ⊎ (a ≡ out u))
@@ -116,7 +115,7 @@ module _ (arc : ℕ → ℕ → Bool) (job : ℕ → ℕ) (wide : ℕ) where
       omega (arith, z, y)
 
   -- before any round nothing flows on a wait: there is no room back along it
-  pub net-unused : (u v : ℕ) → (T (arc u u) → ⊥) → gate (arc u v) (net arc job wide (inn v) (out u)) ≡ 0
+  pub net-unused : (u v : ℕ) → (T (arc u u) → ⊥) → flowOn arc (net arc job wide) u v ≡ 0
   net-unused u v apart = go (tested (arc u v))
     where
       go : T (arc u v) ⊎ (T (arc u v) → ⊥) → gate (arc u v) (net arc job wide (inn v) (out u)) ≡ 0
@@ -181,10 +180,6 @@ job-member x τ cost u = fewer (x u) (not (eqb u τ)) (cost u)
 pub job-total : (n : ℕ) (x : ℕ → Bool) (τ : ℕ) (cost : ℕ → ℕ) (u : ℕ) → u < n → jobCapacity x τ cost u ≤ total n x cost
 unfolding total
 job-total n x τ cost u l = omega (arith, job-member x τ cost u, sum-term n (λ z. gate (x z) (cost z)) u l)
-
-pub total-costs : (n : ℕ) (x : ℕ → Bool) (cost : ℕ → ℕ) → total n x cost ≤ sum n cost
-unfolding total
-total-costs n x cost = sum-mono n _ _ (λ u l. gate-le (x u) (cost u))
 
 pub job-sink : (x : ℕ → Bool) (τ : ℕ) (cost : ℕ → ℕ) → jobCapacity x τ cost τ ≡ 0
 unfolding jobCapacity

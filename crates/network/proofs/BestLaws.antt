@@ -24,12 +24,12 @@ use Rattle.walks.proofs.ReachLaws.{reach, reach-reaches, reaches-reach}
 use Rattle.graph.specs.Rings.{InX}
 use Rattle.network.specs.Rooms.{Room, step}
 use Rattle.network.specs.Rounds.{Rounds, Stuck}
-use Rattle.network.specs.Arcs.{inn, out, within, total, jobCapacity, net, capacity}
+use Rattle.network.specs.Arcs.{inn, out, flowOn, within, total, jobCapacity, net, capacity}
 use Rattle.network.specs.Sets.{Exactly, Opens, price, Best, LeftCount}
 use Rattle.network.proofs.CutLaws.{Carried}
 use Rattle.network.proofs.ArcLaws.{job-cost, job-member, job-sink}
 use Rattle.network.proofs.Tally.{capacity-counted}
-use Rattle.network.proofs.FlowLaws.{flowOn, Flowing, rounds-flowing, into-sink}
+use Rattle.network.proofs.FlowLaws.{Flowing, rounds-flowing, into-sink}
 use Rattle.network.proofs.SetLaws.{count-mono, inX, inx-exact, still, left-count-exists, x-self, x-next, within-wait}
 use Rattle.network.proofs.Duality.{free, free-hit, free-reaches, shut-opens, opens-price}
 use Rattle.network.proofs.SinkSide.{Crossing, crossing-price, crossing-opens, crossing-left, crossing-only}

@@ -2,7 +2,6 @@
 -- The flow on an arc is the room back along it. Over any arcs between jobs of which none leads from a job to itself, any job capacities and any capacity of waits.
 -- Assumes nothing.
 --
---   flowOn arc r u v      the flow on the wait from u to v, 0 where there is no arc
 --   row-kept, row-sink    what leaves a node, all steps together: the same as at the start, and at the sink more by what was pushed
 --   Flowing               rooms with some amount pushed from T's out-node to T's in-node; rounds-flowing: so they are after any rounds
 --   wait-room             room along a wait and flow on it add up to its capacity
@@ -10,7 +9,6 @@
 --   into-job, from-job    what flows into a job other than T, and what flows out of it, is what flows through it
 --   flow-conserved        so the two are equal
 --   into-sink             what flows into T is what was pushed
---   flow-start            at the start nothing flows
 --   room-limit            what bounds the capacities bounds the rooms
 --   capacity-conserved    in the document's network what flows into a job other than T flows out of it
 --   capacity-limit        and no room is above S + 1, which refusal 8 keeps at 2^63 or below: nothing leaves 64 bits
@@ -29,13 +27,10 @@ use Rattle.sums.proofs.SumLaws.{gate-on, gate-off, gate-le, sum-cong, sum-zero,
 use Rattle.sums.proofs.DoubleSums.{dsum}
 use Rattle.network.specs.Rooms.{Room}
 use Rattle.network.specs.Rounds.{Rounds, none}
-use Rattle.network.specs.Arcs.{inn, out, within, total, jobCapacity, net, capacity}
+use Rattle.network.specs.Arcs.{inn, out, flowOn, within, total, jobCapacity, net, capacity}
 use Rattle.network.proofs.RoundLaws.{rounds-pair}
 use Rattle.network.proofs.CutLaws.{cut, Carried, rounds-carried}
 use Rattle.network.proofs.ArcLaws.{node-cases, net-job, net-in, net-wait, net-out, job-total}
-
-unfoldable pub flowOn : (ℕ → ℕ → Bool) → Room → ℕ → ℕ → ℕ
-flowOn arc r u v = gate (arc u v) (r (inn v) (out u))
 
 -- ---- what leaves a node, all steps together: the cut into all nodes but that one
 
@@ -101,12 +96,10 @@ module _ (arc : ℕ → ℕ → Bool) (job : ℕ → ℕ) (wide n τ : ℕ) (apa
   none-out u y lu ly = omega (arith, flow .pair (out u) (out y) (omega arith) (omega arith), net-out arc job wide u y, net-out arc job wide y u)
 
   self-none : (u : ℕ) → u < n → flowOn arc r u u ≡ 0
-  unfolding flowOn
   self-none u l = gate-off (arc u u) (r (inn u) (out u)) (apart u l)
 
   -- between two jobs the room back along a wait is the flow on it
   back-flow : (u y : ℕ) → u < n → y < n → u ≢ y → r (inn y) (out u) ≡ flowOn arc r u y
-  unfolding flowOn
   back-flow u y lu ly ne = go (tested (arc u y))
     where
       p : r (out u) (inn y) + r (inn y) (out u) ≡ gate (arc u y) wide
@@ -190,15 +183,6 @@ module _ (arc : ℕ → ℕ → Bool) (job : ℕ → ℕ) (wide n τ : ℕ) (apa
       omega (arith, e, row-in τ l, row-in-start τ l, job-room τ l, z)
 
 -- ---- bounds
-
-pub flow-start : (arc : ℕ → ℕ → Bool) (job : ℕ → ℕ) (wide n s t : ℕ) (r : Room) → ((u : ℕ) → u < n → T (arc u u) → ⊥)
-    → Rounds (2 * n) s t (net arc job wide) 0 r → (u y : ℕ) → u < n → y < n → flowOn arc r u y ≡ 0
-unfolding flowOn
-flow-start arc job wide n s t r apart (none f) u y lu ly = go (ℕ-discrete u y)
-  where
-    go : Dec (u ≡ y) → gate (arc u y) (r (inn y) (out u)) ≡ 0
-    go (yes e) = gate-off (arc u y) (r (inn y) (out u)) (λ t. apart u lu (subst (λ (z : ℕ). T (arc u z)) (sym e) t))
-    go (no e) = omega (arith, f (inn y) (out u) (omega arith) (omega arith), net-in arc job wide y (out u) (λ q. e (omega arith)), gate-le (arc u y) (r (inn y) (out u)))
 
 module _ (arc : ℕ → ℕ → Bool) (job : ℕ → ℕ) (wide n : ℕ) (apart : (u : ℕ) → u < n → T (arc u u) → ⊥)
     (limit : ℕ) (few : (u : ℕ) → u < n → job u ≤ limit) (width : wide ≤ limit) where

@@ -3,6 +3,7 @@
 -- Each definition but `capacity` is over anything that it names, so that other capacities may stand on the same arcs.
 --
 --   inn u, out u             "Job u has the in-node 2u and the out-node 2u + 1. The source is T's out-node, the sink T's in-node."
+--   flowOn arc r u v         "the flow on the wait from u to v", where the rooms are r: the room back along its arc; "0 where there is no such wait"
 --   within w x u v           there is a "wait u to v within X"
 --   total n x cost           "S being the sum of all costs in X"
 --   jobCapacity x τ cost u   "For each job u of X other than T an arc .. with u's cost as its capacity"; 0 where there is no such arc
@@ -21,6 +22,9 @@ inn u = 2 * u
 
 abbrev pub out : ℕ → ℕ
 out u = suc (2 * u)
+
+abbrev pub flowOn : (ℕ → ℕ → Bool) → Room → ℕ → ℕ → ℕ
+flowOn arc r u v = gate (arc u v) (r (inn v) (out u))
 
 unfoldable pub within : (ℕ → ℕ → Bool) → (ℕ → Bool) → ℕ → ℕ → Bool
 within w x u v = both (w u v) (both (x u) (x v))

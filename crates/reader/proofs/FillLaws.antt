@@ -28,9 +28,9 @@ use Rattle.frames.specs.Fields.{headerAt}
 use Rattle.frames.specs.Fields.{jobAt}
 use Rattle.faults.proofs.RangeLaws.{Ranged}
 use Rattle.refusals.specs.Places.{jobPlace}
-use Rattle.refusals.specs.Refused.{Taken}
+use Rattle.refusals.specs.Refused.{Unrefused}
 use Rattle.refusals.proofs.PlaceLaws.{placeAt, place-small}
-use Rattle.refusals.proofs.TakenLaws.{Whole, taken-whole}
+use Rattle.refusals.proofs.UnrefusedLaws.{Whole, unrefused-whole}
 use Rattle.reader.specs.Snapshots.{statesOf, RowOf, frameCost, jobCost, CostOf, Filled}
 
 module _ (P : ℕ → ℕ → Type 0) where
@@ -70,9 +70,9 @@ unfolding CostOf
 cost-unique h t j a b p q = p ∙ sym q
 
 -- the header h of a text t that is taken
-module _ (t : List ℕ) (ok : Taken t) (h : Header) (e : h ≡ headerAt t 0) where
+module _ (t : List ℕ) (ok : Unrefused t) (h : Header) (e : h ≡ headerAt t 0) where
   pub whole-of : Whole h t
-  whole-of = subst (λ (x : Header). Whole x t) (sym e) (taken-whole t ok)
+  whole-of = subst (λ (x : Header). Whole x t) (sym e) (unrefused-whole t ok)
 
   pub small : (1 ≤ h .n) × (h .n ≤ 64) × (1 ≤ h .s) × (h .s ≤ 16)
   small = let r = whole-of .ranged in (r .n .0, r .n .1, r .s .0, r .s .1)

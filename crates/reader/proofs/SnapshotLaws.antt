@@ -4,7 +4,7 @@
 --   Fit n t rows costs     the first n places of the lists, with job t as T, meet none of 1 to 8
 --   row-known, row-apart   a job's row names no job n or above, and not the job itself: 4 and 5
 --   cost-range             a job's cost is from 1 to 2^42: 7
---   taken-fits, read-fits  what the reader leaves where it refuses nothing
+--   unrefused-fits, read-fits  what the reader leaves where it refuses nothing
 use mathlib.Core.Path.{_≡_, refl, sym, ap, _∙_, subst}
 use mathlib.Core.List.{List}
 use Prim.Native.Nat.{ℕ, zero, suc, _+_, _*_, _^_, _<_, _≤_}
@@ -21,8 +21,8 @@ use Rattle.frames.specs.Fields.{headerAt}
 use Rattle.frames.specs.Fields.{jobAt}
 use Rattle.faults.proofs.RangeLaws.{Ranged, Sound}
 use Rattle.refusals.specs.Places.{jobPlace}
-use Rattle.refusals.specs.Refused.{Taken}
-use Rattle.refusals.proofs.TakenLaws.{Whole, taken-whole, taken-any}
+use Rattle.refusals.specs.Refused.{Unrefused}
+use Rattle.refusals.proofs.UnrefusedLaws.{Whole, unrefused-whole, unrefused-any}
 use Rattle.reader.specs.declared.Snapshot.{Snapshot}
 use Rattle.reader.specs.Snapshots.{statesOf, RowOf, frameCost, jobCost, CostOf, Filled, IsRead}
 
@@ -69,11 +69,11 @@ total-small n f a b =
     let m : n * 4398046511104 ≤ 64 * 4398046511104 = mul-le-mul a (let v : 4398046511104 ≤ 4398046511104 = omega arith in v) in
     omega (arith, s, c, m)
 
-pub taken-fits : (t rows costs rows′ costs′ : List ℕ) → Taken t → Filled (RowOf (headerAt t 0) t) (headerAt t 0 .n) rows rows′ → Filled (CostOf (headerAt t 0) t) (headerAt t 0 .n) costs costs′
+pub unrefused-fits : (t rows costs rows′ costs′ : List ℕ) → Unrefused t → Filled (RowOf (headerAt t 0) t) (headerAt t 0 .n) rows rows′ → Filled (CostOf (headerAt t 0) t) (headerAt t 0 .n) costs costs′
     → Fit (headerAt t 0 .n) (headerAt t 0 .t) rows′ costs′
 unfolding CostOf
-taken-fits t rows costs rows′ costs′ ok p q =
-    let w = taken-whole t ok in
+unrefused-fits t rows costs rows′ costs′ ok p q =
+    let w = unrefused-whole t ok in
     let cost : (j : ℕ) → j < headerAt t 0 .n → (1 ≤ getD costs′ j 0) × (getD costs′ j 0 ≤ 2 ^ 42) =
     λ j l. let c = cost-range (headerAt t 0) t j (w .ranged) (w .sound j l) in rw (q .each j l) c in
     record {
@@ -87,6 +87,6 @@ taken-fits t rows costs rows′ costs′ ok p q =
 
 pub read-fits : (t rows costs rows′ costs′ : List ℕ) (r : Snapshot) → IsRead t rows costs rows′ costs′ r → r .refusal .number ≡ 0 → Fit (r .n) (r .t) rows′ costs′
 read-fits t rows costs rows′ costs′ r a z =
-    let ok = taken-any (length rows) (length costs) t (rw (← a .refusal) z) .0 in
+    let ok = unrefused-any (length rows) (length costs) t (rw (← a .refusal) z) .0 in
     let f = a .header z in
-    rw (f .0, f .1) (taken-fits t rows costs rows′ costs′ ok (a .rowed z) (a .priced z))
+    rw (f .0, f .1) (unrefused-fits t rows costs rows′ costs′ ok (a .rowed z) (a .priced z))

@@ -19,10 +19,10 @@ use Rattle.text.specs.Spell.{spelt, spell}
 use Rattle.ticks.specs.Costs.{ageOf, costOf}
 use Rattle.frames.specs.declared.Header.{Header}
 use Rattle.frames.specs.declared.Refusal.{Refusal}
-use Rattle.frames.specs.Records.{accepted}
+use Rattle.frames.specs.Records.{noRefusal}
 use Rattle.frames.specs.Fields.{headerAt, jobAt, stateByte}
 use Rattle.refusals.specs.Places.{nextLine, startOf, jobLine, jobPlace}
-use Rattle.refusals.proofs.Worked.{line, example, example-taken}
+use Rattle.refusals.proofs.Worked.{line, example, example-unrefused}
 use Rattle.reader.specs.declared.Snapshot.{Snapshot}
 use Rattle.reader.specs.Snapshots.{frameStates, statesOf, RowOf, frameCost, jobCost, CostOf, IsRead}
 use Rattle.reader.proofs.FillLaws.{row-unique}
@@ -85,7 +85,7 @@ unfolding example line spell spelt isDigit digit byteAt number lineOf lineAt hea
 example-costs = (refl, refl)
 
 pub record Example (r : Snapshot) (rows′ costs′ : List ℕ) : Type 0 where
-  pub header : (r .refusal ≡ accepted) × (r .n ≡ 2) × (r .t ≡ 0) × (r .allowance ≡ 64)
+  pub header : (r .refusal ≡ noRefusal) × (r .n ≡ 2) × (r .t ≡ 0) × (r .allowance ≡ 64)
   pub rows : (getD rows′ 0 0 ≡ 2) × (getD rows′ 1 0 ≡ 1)
   pub costs : (getD costs′ 0 0 ≡ 35) × (getD costs′ 1 0 ≡ 13)
 
@@ -96,7 +96,7 @@ timed-out = (refl, refl)
 pub example-read : (rows costs rows′ costs′ : List ℕ) (r : Snapshot) → length rows ≡ 64 → length costs ≡ 64 → IsRead example rows costs rows′ costs′ r → Example r rows′ costs′
 unfolding CostOf
 example-read rows costs rows′ costs′ r a b w =
-    let e : r .refusal ≡ accepted = w .refusal ∙ rw (a, b) example-taken in
+    let e : r .refusal ≡ noRefusal = w .refusal ∙ rw (a, b) example-unrefused in
     let z : r .refusal .number ≡ 0 = ap (λ (x : Refusal). x .number) e in
     let h = w .header z in
     let p = w .rowed z in

@@ -12,7 +12,7 @@ ghost use Prim.Native.Nat.{_+_, _*_, _^_, _≤_, _<_};
 ghost use lib.ListN.{length, take, drop};
 ghost use Rattle.frames.specs.Kinds.{jobDigits};
 ghost use Rattle.frames.specs.Fields.{headerAt};
-ghost use Rattle.refusals.specs.Refused.{Taken};
+ghost use Rattle.refusals.specs.Refused.{Unrefused};
 ghost use Rattle.reader.specs.Snapshots.{frameStates, statesOf, RowOf, jobCost, CostOf, Filled, IsRead};
 
 // What the reader returns. After a refusal n, T and the allowance are 0.
@@ -37,7 +37,7 @@ fn put_states(text: &[u8], at: usize, s: usize, table: &mut [u8], from: usize)
 
 // The pool states of every job.
 fn pool_table(h: Header, text: &[u8]) -> [u8; 1024]
-    requires { ⌜ Taken (now text) × (h ≡ headerAt (now text) 0) ⌝ }
+    requires { ⌜ Unrefused (now text) × (h ≡ headerAt (now text) 0) ⌝ }
     ensures { λ r. ⌜ take (h .n * h .s) r ≡ statesOf h (now (text .entry)) (h .n) ⌝ }
 {
     let mut table = [0u8; 1024];
@@ -53,7 +53,7 @@ fn pool_table(h: Header, text: &[u8]) -> [u8; 1024]
 
 // Fills the rows of the jobs.
 fn fill_rows(h: Header, text: &[u8], rows: &mut [u64])
-    requires { ⌜ Taken (now text) × (h ≡ headerAt (now text) 0) × (h .n ≤ length (now rows)) ⌝ }
+    requires { ⌜ Unrefused (now text) × (h ≡ headerAt (now text) 0) × (h .n ≤ length (now rows)) ⌝ }
     ensures { λ _. ⌜ Filled (RowOf h (now (text .entry))) (h .n) (now (rows .entry)) (now (rows .exit)) ⌝ }
 {
     let n = h.n;
@@ -69,7 +69,7 @@ fn fill_rows(h: Header, text: &[u8], rows: &mut [u64])
 
 // The cost of job j.
 fn job_cost(h: Header, text: &[u8], j: usize) -> u64
-    requires { ⌜ Taken (now text) × (h ≡ headerAt (now text) 0) × (j < h .n) ⌝ }
+    requires { ⌜ Unrefused (now text) × (h ≡ headerAt (now text) 0) × (j < h .n) ⌝ }
     ensures { λ r. ⌜ r ≡ jobCost h (now (text .entry)) j ⌝ }
 {
     let job = Job::read(text, refusals::job_place(h, j));
@@ -79,7 +79,7 @@ fn job_cost(h: Header, text: &[u8], j: usize) -> u64
 
 // Fills the costs of the jobs.
 fn fill_costs(h: Header, text: &[u8], costs: &mut [u64])
-    requires { ⌜ Taken (now text) × (h ≡ headerAt (now text) 0) × (h .n ≤ length (now costs)) ⌝ }
+    requires { ⌜ Unrefused (now text) × (h ≡ headerAt (now text) 0) × (h .n ≤ length (now costs)) ⌝ }
     ensures { λ _. ⌜ Filled (CostOf h (now (text .entry))) (h .n) (now (costs .entry)) (now (costs .exit)) ⌝ }
 {
     let n = h.n;

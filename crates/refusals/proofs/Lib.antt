@@ -1,5 +1,5 @@
 pub mod PlaceLaws
 pub mod PassLaws
-pub mod TakenLaws
+pub mod UnrefusedLaws
 pub mod Unique
 pub mod Worked

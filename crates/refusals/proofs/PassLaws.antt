@@ -19,7 +19,7 @@ use Rattle.cursor.specs.Order.{_then_, _when_}
 use Rattle.cursor.specs.Frame.{furtherFault}
 use Rattle.frames.specs.declared.Header.{Header}
 use Rattle.frames.specs.declared.Refusal.{Refusal}
-use Rattle.frames.specs.Records.{refused, accepted}
+use Rattle.frames.specs.Records.{refused, noRefusal}
 use Rattle.frames.specs.Fields.{headerAt}
 use Rattle.faults.specs.HeaderFault.{headerFault}
 use Rattle.faults.specs.JobFault.{jobFault, waitsIn}
@@ -86,7 +86,7 @@ module _ (h : Header) (t : List ℕ) (n : ℕ) where
 
     -- behind the last frame, at p, where f refuses a further line
     module _ (p f : ℕ) (l : n ≤ j) (e : p ≡ placeAt h n) (z : f ≡ furtherFault t p) where
-      last : jobsRefusal h t (n - j) j ≡ onLine (jobLine h n) f (onLine (jobLine h (h .t)) (18 when eqb (waitsIn t (jobPlace h t (h .t)) (h .s)) 0) accepted)
+      last : jobsRefusal h t (n - j) j ≡ onLine (jobLine h n) f (onLine (jobLine h (h .t)) (18 when eqb (waitsIn t (jobPlace h t (h .t)) (h .s)) 0) noRefusal)
       unfolding jobsRefusal
       last =
           let s : n ≡ j = let a = w .inside in omega arith in
@@ -106,7 +106,7 @@ module _ (h : Header) (t : List ℕ) (n : ℕ) where
         unfolding _when_ onLine
         passed-idle x r line a b = b ∙ ap (refused 18) a ∙ sym (last ∙ line-good _ f _ y ∙ rw (← there, x) refl) ∙ w .rest
 
-        pub passed-right : (k ≡ 0 → ⊥) → (r : Refusal) → r ≡ accepted → r ≡ jobsRefusal h t n 0
+        pub passed-right : (k ≡ 0 → ⊥) → (r : Refusal) → r ≡ noRefusal → r ≡ jobsRefusal h t n 0
         unfolding _when_ onLine
         passed-right x r b = b ∙ sym (last ∙ line-good _ f _ y ∙ rw (← there) (simp (ne-eqb _ _ x))) ∙ w .rest
 

@@ -3,7 +3,7 @@
 --
 --   line k x         a line of k digits
 --   example          document 01's program case, in
---   example-taken    nothing refuses it
+--   example-unrefused    nothing refuses it
 --   Case, cases      a text, and the number and line of its refusal: each refusal from 9 to 18, each way to 10 and 11
 --   cases-right      every one is as the definitions say
 --   lists-short      3 stands before all
@@ -22,12 +22,12 @@ use Rattle.cursor.specs.Order.{_when_, _then_}
 use Rattle.cursor.specs.Frame.{frameFault, furtherFault}
 use Rattle.ticks.specs.Costs.{ageOf}
 use Rattle.frames.specs.declared.Refusal.{Refusal}
-use Rattle.frames.specs.Records.{refused, accepted}
+use Rattle.frames.specs.Records.{refused, noRefusal}
 use Rattle.frames.specs.Fields.{headerAt, jobAt, stateByte}
 use Rattle.faults.specs.HeaderFault.{inRange, headerFault}
 use Rattle.faults.specs.JobFault.{ageFault, operationsFault, fieldsFault, stateAbove, waitsIn, jobFault}
 use Rattle.refusals.specs.Places.{nextLine, startOf, jobLine, jobPlace}
-use Rattle.refusals.specs.Refused.{onLine, jobsRefusal, refusalOf, Taken}
+use Rattle.refusals.specs.Refused.{onLine, jobsRefusal, refusalOf, Unrefused}
 
 unfoldable pub line : ℕ → ℕ → List ℕ
 line k x = spell k x ++ 10 ∷ []
@@ -35,9 +35,9 @@ line k x = spell k x ++ 10 ∷ []
 unfoldable pub example : List ℕ
 example = line 32 0x0100_0000_1000_0100_0102_0200_0000_0040 ++ line 24 0x0200_FFFF_FFF0_0000_0003_0102 ++ line 24 0x0201_0000_0008_0000_0005_0201
 
-pub example-taken : Taken example
+pub example-unrefused : Unrefused example
 unfolding example line spell spelt isDigit digit byteAt number any sum count lineOf hasFeed lineAt badLine _when_ _then_ frameFault furtherFault ageOf headerAt jobAt stateByte inRange headerFault ageFault operationsFault fieldsFault stateAbove waitsIn jobFault nextLine startOf jobLine jobPlace onLine jobsRefusal refusalOf
-example-taken = refl
+example-unrefused = refl
 
 pub record Case : Type 0 where
   pub text : List ℕ

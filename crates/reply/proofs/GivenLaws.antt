@@ -17,13 +17,13 @@ use Rattle.bits.specs.Mask.{Has}
 use Rattle.sums.specs.Sum.{sum}
 use Rattle.graph.specs.Waits.{waits}
 use Rattle.graph.proofs.WaitLaws.{waits-has, waits-below}
-use Rattle.flow.specs.Accepted.{costOf}
+use Rattle.flow.specs.Accepted.{costAt}
 use Rattle.verdict.specs.declared.Decision.{Decision}
 use Rattle.verdict.specs.declared.Answer.{Answer}
 use Rattle.verdict.specs.declared.Answer.the-variants.{Refused, Decided}
 use Rattle.verdict.specs.Refusals.{Fault, Faultless}
 use Rattle.verdict.specs.Refusals.Fault.{empty, crowded, uneven, short, stray, looped, absent, free, dear, heavy}
-use Rattle.verdict.specs.Answers.{number, Verdict}
+use Rattle.verdict.specs.Answers.{outcomeNumber, Verdict}
 use Rattle.verdict.specs.Called.{Called}
 use Rattle.verdict.specs.Called.Called.{refuses, answers}
 use Rattle.verdict.proofs.RefusalLaws.{refusal-faultless}
@@ -31,23 +31,23 @@ use Rattle.verdict.proofs.CallLaws.{decided-unique}
 use Rattle.frames.specs.declared.Answer.{Answer as Frame}
 use Rattle.frames.specs.Records.{answered}
 use Rattle.frames.specs.Fields.{headerAt}
-use Rattle.refusals.specs.Refused.{refusalOf, Taken}
-use Rattle.refusals.proofs.TakenLaws.{taken-any}
+use Rattle.refusals.specs.Refused.{refusalOf, Unrefused}
+use Rattle.refusals.proofs.UnrefusedLaws.{unrefused-any}
 use Rattle.reader.specs.declared.Snapshot.{Snapshot}
 use Rattle.reader.specs.Snapshots.{RowOf, CostOf, Filled, IsRead}
-use Rattle.reader.proofs.SnapshotLaws.{Fit, taken-fits}
+use Rattle.reader.proofs.SnapshotLaws.{Fit, unrefused-fits}
 use Rattle.reply.specs.Replied.{Given}
 
 -- ---- in range
 
-pub given-fits : (text rows costs : List ℕ) → Taken text → Given text rows costs → Fit (headerAt text 0 .n) (headerAt text 0 .t) rows costs
+pub given-fits : (text rows costs : List ℕ) → Unrefused text → Given text rows costs → Fit (headerAt text 0 .n) (headerAt text 0 .t) rows costs
 given-fits text rows costs ok G =
-    taken-fits text rows costs rows costs ok
+    unrefused-fits text rows costs rows costs ok
     (record { same = refl; each = G .row; rest = λ j l. refl })
     (record { same = refl; each = G .cost; rest = λ j l. refl })
 
-pub given-faultless : (text rows costs : List ℕ) → Taken text → Given text rows costs → Faultless rows costs (headerAt text 0 .t) 4096
-unfolding costOf
+pub given-faultless : (text rows costs : List ℕ) → Unrefused text → Given text rows costs → Faultless rows costs (headerAt text 0 .t) 4096
+unfolding costAt
 given-faultless text rows costs ok G = none
   where
     F : Fit (headerAt text 0 .n) (headerAt text 0 .t) rows costs
@@ -74,13 +74,13 @@ given-faultless text rows costs ok G = none
 -- ---- what the reader leaves
 
 module _ (text rows costs rows′ costs′ : List ℕ) (s : Snapshot) (R : IsRead text rows costs rows′ costs′ s) (z : s .refusal .number ≡ 0) where
-  pub read-taken : Taken text
-  read-taken = taken-any (length rows) (length costs) text (rw (← R .refusal) z) .0
+  pub read-unrefused : Unrefused text
+  read-unrefused = unrefused-any (length rows) (length costs) text (rw (← R .refusal) z) .0
 
   pub read-size : (s .n ≤ length rows′) × (s .n ≤ length costs′)
   read-size =
-      let a = taken-any (length rows) (length costs) text (rw (← R .refusal) z) in
-      let f = taken-fits text rows costs rows′ costs′ (a .0) (R .rowed z) (R .priced z) in
+      let a = unrefused-any (length rows) (length costs) text (rw (← R .refusal) z) in
+      let f = unrefused-fits text rows costs rows′ costs′ (a .0) (R .rowed z) (R .priced z) in
       (omega (arith, R .header z .0, a .1, f .jobs .1, R .rowed z .same), omega (arith, R .header z .0, a .2, f .jobs .1, R .priced z .same))
 
   pub read-given : Given text (take (s .n) rows′) (take (s .n) costs′)
@@ -92,7 +92,7 @@ module _ (text rows costs rows′ costs′ : List ℕ) (s : Snapshot) (R : IsRea
   }
 
   pub read-faultless : Faultless (take (s .n) rows′) (take (s .n) costs′) (s .t) 4096
-  read-faultless = rw (R .header z .1) (given-faultless text (take (s .n) rows′) (take (s .n) costs′) read-taken read-given)
+  read-faultless = rw (R .header z .1) (given-faultless text (take (s .n) rows′) (take (s .n) costs′) read-unrefused read-given)
 
 -- ---- what a call answers
 
@@ -110,10 +110,10 @@ module _ (rows costs : List ℕ) (τ allowance : ℕ) (before : List ℕ) (size 
 
   -- the decision, as an answer frame
   pub always-decided : (x : Answer) (after : List ℕ) (d : Decision) (a : Frame) → Called rows costs τ allowance before x after → x ≡ Decided d
-      → a ≡ answered (number (d .outcome)) (d .price) (d .rounds) (d .victims)
-      → Verdict (waits rows) (length rows) τ (costOf costs) allowance (a .outcome) (a .price) (a .rounds) (a .victims)
+      → a ≡ answered (outcomeNumber (d .outcome)) (d .price) (d .rounds) (d .victims)
+      → Verdict (waits rows) (length rows) τ (costAt costs) allowance (a .outcome) (a .price) (a .rounds) (a .victims)
   always-decided x after d a (refuses j r) e q = absurd (refusal-faultless rows costs τ (length before) j r faultless)
   always-decided x after d a (answers d′ after′ g v F) e q = rw q (subst Says (decided-unique d′ d e) v)
     where
       Says : Decision → Type 0
-      Says z = Verdict (waits rows) (length rows) τ (costOf costs) allowance (number (z .outcome)) (z .price) (z .rounds) (z .victims)
+      Says z = Verdict (waits rows) (length rows) τ (costAt costs) allowance (outcomeNumber (z .outcome)) (z .price) (z .rounds) (z .victims)

@@ -12,7 +12,7 @@ use native.Mathlib.Omega.{arith}
 use lib.ListN.{length, getD, drop, length-append}
 use lib.Seq.{ext-getD}
 use Rattle.graph.specs.Waits.{waits}
-use Rattle.flow.specs.Accepted.{costOf}
+use Rattle.flow.specs.Accepted.{costAt}
 use Rattle.verdict.specs.Answers.{Verdict}
 use Rattle.verdict.proofs.RefusalLaws.{faultless-job, faultless-apart, faultless-positive}
 use Rattle.verdict.proofs.AnswerLaws.{verdict-unique}
@@ -21,7 +21,7 @@ use Rattle.frames.specs.declared.Answer.{Answer}
 use Rattle.frames.specs.declared.Refusal.{Refusal}
 use Rattle.frames.specs.Records.{answered}
 use Rattle.frames.specs.Fields.{headerAt}
-use Rattle.refusals.specs.Refused.{refusalOf, Taken}
+use Rattle.refusals.specs.Refused.{refusalOf, Unrefused}
 use Rattle.reader.specs.declared.Snapshot.{Snapshot}
 use Rattle.reader.specs.Snapshots.{IsRead}
 use Rattle.reader.proofs.FillLaws.{row-unique, cost-unique}
@@ -50,10 +50,10 @@ module _ (text : List ℕ) where
       let er = same-rows rows′ rows costs′ costs G′ G in
       let ec = same-costs rows′ rows costs′ costs G′ G in
       let f = given-faultless text rows costs ok G in
-      let z : Verdict (waits rows) (length rows) (headerAt text 0 .t) (costOf costs) (headerAt text 0 .allowance) o′ p′ k′ v′ =
-      subst (λ (x : List ℕ). Verdict (waits x) (length x) (headerAt text 0 .t) (costOf costs) (headerAt text 0 .allowance) o′ p′ k′ v′) er
-      (subst (λ (x : List ℕ). Verdict (waits rows′) (length rows′) (headerAt text 0 .t) (costOf x) (headerAt text 0 .allowance) o′ p′ k′ v′) ec y′) in
-      let q = verdict-unique (waits rows) (length rows) (headerAt text 0 .t) (costOf costs) (faultless-job rows costs (headerAt text 0 .t) 4096 f)
+      let z : Verdict (waits rows) (length rows) (headerAt text 0 .t) (costAt costs) (headerAt text 0 .allowance) o′ p′ k′ v′ =
+      subst (λ (x : List ℕ). Verdict (waits x) (length x) (headerAt text 0 .t) (costAt costs) (headerAt text 0 .allowance) o′ p′ k′ v′) er
+      (subst (λ (x : List ℕ). Verdict (waits rows′) (length rows′) (headerAt text 0 .t) (costAt x) (headerAt text 0 .allowance) o′ p′ k′ v′) ec y′) in
+      let q = verdict-unique (waits rows) (length rows) (headerAt text 0 .t) (costAt costs) (faultless-job rows costs (headerAt text 0 .t) 4096 f)
       (λ u l t. faultless-apart rows costs (headerAt text 0 .t) 4096 f u t) (faultless-positive rows costs (headerAt text 0 .t) 4096 f)
       (headerAt text 0 .allowance) o p k v o′ p′ k′ v′ y z in
       λ i. answerLine (answered (q .0 i) (q .1 i) (q .2 i) (q .3 i))
@@ -75,8 +75,8 @@ reply-refused text before after rows costs rows′ costs′ s lr lc R z l e =
     let same : refusalOf 64 64 text ≡ s .refusal = sym (R .refusal ∙ ap (λ (k : ℕ). refusalOf k (length costs) text) lr ∙ ap (λ (k : ℕ). refusalOf 64 k text) lc) in
     rw e (written l (refusalLine (s .refusal)) (refuses (s .refusal) same z))
 
-pub reply-answered : (text before after rows costs : List ℕ) (a : Answer) → Taken text → Given text rows costs
-    → Verdict (waits rows) (length rows) (headerAt text 0 .t) (costOf costs) (headerAt text 0 .allowance) (a .outcome) (a .price) (a .rounds) (a .victims)
+pub reply-answered : (text before after rows costs : List ℕ) (a : Answer) → Unrefused text → Given text rows costs
+    → Verdict (waits rows) (length rows) (headerAt text 0 .t) (costAt costs) (headerAt text 0 .allowance) (a .outcome) (a .price) (a .rounds) (a .victims)
     → 45 ≤ length before → after ≡ answerLine a ++ drop 45 before → Replied text before 45 after
 unfolding answerLine spell
 reply-answered text before after rows costs a ok G y l e =

@@ -21,14 +21,14 @@ use Rattle.walks.proofs.Distance.{tab, getD-tab}
 use Rattle.graph.specs.Waits.{waits}
 use Rattle.graph.specs.Pools.{blocks, stateAt, WaitsFor}
 use Rattle.graph.proofs.PoolLaws.{Met, met-end}
-use Rattle.flow.specs.Accepted.{costOf}
+use Rattle.flow.specs.Accepted.{costAt}
 use Rattle.verdict.proofs.RefusalLaws.{faultless-few, faultless-job, faultless-apart}
 use Rattle.verdict.proofs.ExistsLaws.{verdict-exists}
 use Rattle.frames.specs.declared.Refusal.{Refusal}
 use Rattle.frames.specs.Records.{answered}
 use Rattle.frames.specs.Fields.{headerAt}
-use Rattle.refusals.specs.Refused.{refusalOf, Taken}
-use Rattle.refusals.proofs.TakenLaws.{taken-any, taken-whole}
+use Rattle.refusals.specs.Refused.{refusalOf, Unrefused}
+use Rattle.refusals.proofs.UnrefusedLaws.{unrefused-any, unrefused-whole}
 use Rattle.reader.specs.Snapshots.{statesOf, RowOf, CostOf, jobCost}
 use Rattle.lines.specs.Lines.{answerLine, refusalLine}
 use Rattle.reply.specs.Replied.{Given, LineOf}
@@ -50,7 +50,7 @@ unfolding tab
 length-tab zero f = refl
 length-tab (suc n) f = ap suc (length-tab n (λ i. f (suc i)))
 
-pub given-exists : (text : List ℕ) → Taken text → (rows : List ℕ) × (costs : List ℕ) × Given text rows costs
+pub given-exists : (text : List ℕ) → Unrefused text → (rows : List ℕ) × (costs : List ℕ) × Given text rows costs
 unfolding RowOf CostOf
 given-exists text ok = (
   tab n row,
@@ -73,7 +73,7 @@ given-exists text ok = (
     states = statesOf (headerAt text 0) text (headerAt text 0 .n)
 
     few : headerAt text 0 .n ≤ 64
-    few = taken-whole text ok .ranged .n .1
+    few = unrefused-whole text ok .ranged .n .1
 
     row : ℕ → ℕ
     row j = row-exists states n s j few .0
@@ -87,11 +87,11 @@ line-exists text = go (ℕ-discrete (refusalOf 64 64 text .number) 0)
     go : Dec (refusalOf 64 64 text .number ≡ 0) → (line : List ℕ) × LineOf text line
     go (no z) = (refusalLine (refusalOf 64 64 text), refuses (refusalOf 64 64 text) refl z)
     go (yes z) =
-        let ok = taken-any 64 64 text z .0 in
+        let ok = unrefused-any 64 64 text z .0 in
         let g = given-exists text ok in
         let f = given-faultless text (g .0) (g .1) ok (g .2) in
         let t = headerAt text 0 .t in
-        let x = verdict-exists (waits (g .0)) (length (g .0)) (headerAt text 0 .t) (costOf (g .1)) (faultless-few (g .0) (g .1) (headerAt text 0 .t) 4096 f) (faultless-job (g .0) (g .1) (headerAt text 0 .t) 4096 f)
+        let x = verdict-exists (waits (g .0)) (length (g .0)) (headerAt text 0 .t) (costAt (g .1)) (faultless-few (g .0) (g .1) (headerAt text 0 .t) 4096 f) (faultless-job (g .0) (g .1) (headerAt text 0 .t) 4096 f)
         (λ u l w. faultless-apart (g .0) (g .1) (headerAt text 0 .t) 4096 f u w) (headerAt text 0 .allowance) in
         (answerLine (answered (x .0) (x .1) (x .2) (x .3)), answers ok (g .0) (g .1) (g .2) (x .0) (x .1) (x .2) (x .3) (x .4))
 

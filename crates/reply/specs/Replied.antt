@@ -9,19 +9,19 @@ use mathlib.Core.List.{List, _++_}
 use Prim.Native.Nat.{ℕ, _<_, _≤_}
 use lib.ListN.{length, getD, drop}
 use Rattle.graph.specs.Waits.{waits}
-use Rattle.flow.specs.Accepted.{costOf}
+use Rattle.flow.specs.Accepted.{costAt}
 use Rattle.verdict.specs.declared.Decision.{Decision}
-use Rattle.verdict.specs.Answers.{number, Verdict}
+use Rattle.verdict.specs.Answers.{outcomeNumber, Verdict}
 use Rattle.frames.specs.declared.Answer.{Answer}
 use Rattle.frames.specs.declared.Refusal.{Refusal}
 use Rattle.frames.specs.Records.{answered}
 use Rattle.frames.specs.Fields.{headerAt}
-use Rattle.refusals.specs.Refused.{refusalOf, Taken}
+use Rattle.refusals.specs.Refused.{refusalOf, Unrefused}
 use Rattle.reader.specs.Snapshots.{RowOf, CostOf}
 use Rattle.lines.specs.Lines.{answerLine, refusalLine}
 
 abbrev pub frameOf : Decision → Answer
-frameOf d = answered (number (d .outcome)) (d .price) (d .rounds) (d .victims)
+frameOf d = answered (outcomeNumber (d .outcome)) (d .price) (d .rounds) (d .victims)
 
 pub record Given (text rows costs : List ℕ) : Type 0 where
   pub jobs : length rows ≡ headerAt text 0 .n
@@ -33,8 +33,8 @@ pub data LineOf (text : List ℕ) : List ℕ → Type 0 where
   -- the first refusal of the text, with its line
   refuses : (r : Refusal) → refusalOf 64 64 text ≡ r → (r .number ≡ 0 → ⊥) → LineOf text (refusalLine r)
   -- the verdict on its jobs, with its T and its allowance
-  answers : Taken text → (rows costs : List ℕ) → Given text rows costs → (o p k v : ℕ)
-      → Verdict (waits rows) (length rows) (headerAt text 0 .t) (costOf costs) (headerAt text 0 .allowance) o p k v
+  answers : Unrefused text → (rows costs : List ℕ) → Given text rows costs → (o p k v : ℕ)
+      → Verdict (waits rows) (length rows) (headerAt text 0 .t) (costAt costs) (headerAt text 0 .allowance) o p k v
       → LineOf text (answerLine (answered o p k v))
 
 -- 45 bytes hold every line: 44 digits and the line feed

@@ -6,7 +6,7 @@
 ghost use mathlib.Core.Path.{_≡_};
 ghost use lib.ListN.{length};
 ghost use Rattle.graph.specs.Waits.{waits};
-ghost use Rattle.flow.specs.Accepted.{costOf};
+ghost use Rattle.flow.specs.Accepted.{costAt};
 ghost use Rattle.verdict.specs.Refusals.{Faultless};
 ghost use Rattle.verdict.specs.Answers.{Verdict};
 ghost use Rattle.reply.specs.Replied.{frameOf, Replied};
@@ -27,7 +27,7 @@ pub fn answer_frame(d: verdict::Decision) -> frames::Answer
 // The verdict on jobs without faults.
 fn decide(rows: &[u64], costs: &[u64], t: usize, allowance: u32) -> frames::Answer
     requires { ⌜ Faultless (now rows) (now costs) t 4096 ⌝ }
-    ensures { λ r. ⌜ Verdict (waits (now (rows .entry))) (length (now (rows .entry))) t (costOf (now (costs .entry))) allowance (r .outcome) (r .price) (r .rounds) (r .victims) ⌝ }
+    ensures { λ r. ⌜ Verdict (waits (now (rows .entry))) (length (now (rows .entry))) t (costAt (now (costs .entry))) allowance (r .outcome) (r .price) (r .rounds) (r .victims) ⌝ }
 {
     let mut work = [0u64; 4096];
     let answer = verdict::verdict(rows, costs, t, allowance, &mut work);

@@ -8,13 +8,13 @@ use mathlib.Core.Bool.{Bool, cond, _||_}
 use mathlib.Core.List.{List}
 use Prim.Native.Nat.{ℕ, zero, suc, _+_, _*_, _-_}
 use lib.ListN.{getD}
-use Rattle.text.specs.Tests.{within}
+use Rattle.text.specs.Tests.{between}
 
 unfoldable pub isDigit : ℕ → Bool
-isDigit c = within 48 57 c || within 65 70 c
+isDigit c = between 48 57 c || between 65 70 c
 
 unfoldable pub digit : ℕ → ℕ
-digit c = cond (within 48 57 c) (c - 48) (cond (within 65 70 c) (c - 55) 0)
+digit c = cond (between 48 57 c) (c - 48) (cond (between 65 70 c) (c - 55) 0)
 
 unfoldable pub byteAt : List ℕ → ℕ → ℕ
 byteAt text at = digit (getD text at 0) * 16 + digit (getD text (at + 1) 0)

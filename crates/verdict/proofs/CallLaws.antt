@@ -26,14 +26,14 @@ use Rattle.network.specs.Arcs.{inn, out, within, waitCount}
 use Rattle.network.specs.Sets.{Exactly}
 use Rattle.network.proofs.RoundLaws.{rounds-unique}
 use Rattle.network.proofs.SetLaws.{exactly-unique, inX}
-use Rattle.flow.specs.Accepted.{costOf}
+use Rattle.flow.specs.Accepted.{costAt}
 use Rattle.verdict.specs.declared.Outcome.{Outcome}
 use Rattle.verdict.specs.declared.Outcome.the-variants.{Wait, AbortT, AbortOthers, NotYet}
 use Rattle.verdict.specs.declared.Decision.{Decision}
 use Rattle.verdict.specs.declared.Answer.{Answer}
 use Rattle.verdict.specs.declared.Answer.the-variants.{Refused, Decided}
 use Rattle.verdict.specs.Refusals.{Refusal, Faultless}
-use Rattle.verdict.specs.Answers.{number, After, Verdict}
+use Rattle.verdict.specs.Answers.{outcomeNumber, After, Verdict}
 use Rattle.verdict.specs.Called.{Flows, Called}
 use Rattle.verdict.specs.Called.Called.{refuses, answers}
 use Rattle.verdict.proofs.RefusalLaws.{refusal-unique, refusal-faultless, faultless-job, faultless-apart, faultless-positive}
@@ -56,9 +56,9 @@ module _ (rows costs : List ℕ) (τ : ℕ) where
       same-x = exactly-unique (length rows) (InX (waits rows) (length rows) τ) (F .rounds .x) (G .rounds .x) (F .rounds .exact) (G .rounds .exact)
 
       same-room : (p q : ℕ) → p < 2 * length rows → q < 2 * length rows → F .room p q ≡ G .room p q
-      same-room = rounds-unique (2 * length rows) (out τ) (inn τ) (known (waits rows) (length rows) τ (costOf costs) lτ) k (F .room) (G .room) (omega arith)
-          (subst (λ (z : ℕ). Rounds (2 * length rows) (out τ) (inn τ) (known (waits rows) (length rows) τ (costOf costs) lτ) z (F .room)) e (after-rounds (waits rows) (length rows) τ (costOf costs) lτ j (F .room) (F .rounds)))
-          (after-rounds (waits rows) (length rows) τ (costOf costs) lτ k (G .room) (G .rounds))
+      same-room = rounds-unique (2 * length rows) (out τ) (inn τ) (known (waits rows) (length rows) τ (costAt costs) lτ) k (F .room) (G .room) (omega arith)
+          (subst (λ (z : ℕ). Rounds (2 * length rows) (out τ) (inn τ) (known (waits rows) (length rows) τ (costAt costs) lτ) z (F .room)) e (after-rounds (waits rows) (length rows) τ (costAt costs) lτ j (F .room) (F .rounds)))
+          (after-rounds (waits rows) (length rows) τ (costAt costs) lτ k (G .room) (G .rounds))
 
       go : (i : ℕ) → Dec (i < length rows * length rows) → getD a i 0 ≡ getD b i 0
       go i (yes l) =
@@ -77,7 +77,7 @@ module _ (rows costs : List ℕ) (τ : ℕ) where
 
 -- ---- the outcome
 
-pub number-unique : (a b : Outcome) → number a ≡ number b → a ≡ b
+pub number-unique : (a b : Outcome) → outcomeNumber a ≡ outcomeNumber b → a ≡ b
 number-unique Wait Wait e = refl
 number-unique Wait AbortT e = absurd (omega arith)
 number-unique Wait AbortOthers e = absurd (omega arith)
@@ -95,7 +95,7 @@ number-unique NotYet AbortT e = absurd (omega arith)
 number-unique NotYet AbortOthers e = absurd (omega arith)
 number-unique NotYet NotYet e = refl
 
-pub outcome-number-unique : (o : Outcome) (a b : ℕ) → a ≡ number o → b ≡ number o → a ≡ b
+pub outcome-number-unique : (o : Outcome) (a b : ℕ) → a ≡ outcomeNumber o → b ≡ outcomeNumber o → a ≡ b
 outcome-number-unique o a b p q = p ∙ sym q
 
 -- ---- the call
@@ -112,12 +112,12 @@ decided-unique d e q = ap (decisionOf d) q
 module _ (rows costs : List ℕ) (τ : ℕ) where
   -- two decisions on an input without faults
   decision-unique : (a work : ℕ) (d e : Decision) → Faultless rows costs τ work
-      → Verdict (waits rows) (length rows) τ (costOf costs) a (number (d .outcome)) (d .price) (d .rounds) (d .victims)
-      → Verdict (waits rows) (length rows) τ (costOf costs) a (number (e .outcome)) (e .price) (e .rounds) (e .victims)
+      → Verdict (waits rows) (length rows) τ (costAt costs) a (outcomeNumber (d .outcome)) (d .price) (d .rounds) (d .victims)
+      → Verdict (waits rows) (length rows) τ (costAt costs) a (outcomeNumber (e .outcome)) (e .price) (e .rounds) (e .victims)
       → d ≡ e
   decision-unique a work d e f v w =
-      let q = verdict-unique (waits rows) (length rows) τ (costOf costs) (faultless-job rows costs τ work f) (λ u l t. faultless-apart rows costs τ work f u t) (faultless-positive rows costs τ work f)
-      a (number (d .outcome)) (d .price) (d .rounds) (d .victims) (number (e .outcome)) (e .price) (e .rounds) (e .victims) v w in
+      let q = verdict-unique (waits rows) (length rows) τ (costAt costs) (faultless-job rows costs τ work f) (λ u l t. faultless-apart rows costs τ work f u t) (faultless-positive rows costs τ work f)
+      a (outcomeNumber (d .outcome)) (d .price) (d .rounds) (d .victims) (outcomeNumber (e .outcome)) (e .price) (e .rounds) (e .victims) v w in
       let o = number-unique (d .outcome) (e .outcome) (q .0) in
       λ i. record { outcome = o i; price = q .1 i; rounds = q .2 i; victims = q .3 i }
 
@@ -133,15 +133,15 @@ module _ (rows costs : List ℕ) (τ : ℕ) where
   -- DEMAND 3, over the call's statement: "For n jobs and m waits there is one number of rounds, at most 2n(m + n)"
   pub call-demand : (before : List ℕ) → Faultless rows costs τ (length before)
       → (K : ℕ) × (K ≤ 2 * length rows * (waitCount (waits rows) (length rows) + length rows))
-      × ((a : ℕ) (d : Decision) (after : List ℕ) → Called rows costs τ a before (Decided d) after → Demand K a (number (d .outcome)) (d .rounds))
+      × ((a : ℕ) (d : Decision) (after : List ℕ) → Called rows costs τ a before (Decided d) after → Demand K a (outcomeNumber (d .outcome)) (d .rounds))
   call-demand before f =
-      let z = verdict-demand (waits rows) (length rows) τ (costOf costs) (faultless-job rows costs τ (length before) f) in
+      let z = verdict-demand (waits rows) (length rows) τ (costAt costs) (faultless-job rows costs τ (length before) f) in
       (z .0, z .1, λ a d after c. each (z .0) (z .2) a (Decided d) after c d refl)
     where
-      each : (K : ℕ) → ((a o p k v : ℕ) → Verdict (waits rows) (length rows) τ (costOf costs) a o p k v → Demand K a o k)
-          → (a : ℕ) (x : Answer) (after : List ℕ) → Called rows costs τ a before x after → (d : Decision) → x ≡ Decided d → Demand K a (number (d .outcome)) (d .rounds)
+      each : (K : ℕ) → ((a o p k v : ℕ) → Verdict (waits rows) (length rows) τ (costAt costs) a o p k v → Demand K a o k)
+          → (a : ℕ) (x : Answer) (after : List ℕ) → Called rows costs τ a before x after → (d : Decision) → x ≡ Decided d → Demand K a (outcomeNumber (d .outcome)) (d .rounds)
       each K h a x after (refuses k r) d e = absurd (refusal-faultless rows costs τ (length before) k r f)
-      each K h a x after (answers d′ after″ g v F) d e = h a (number (d .outcome)) (d .price) (d .rounds) (d .victims) (subst Says (decided-unique d′ d e) v)
+      each K h a x after (answers d′ after″ g v F) d e = h a (outcomeNumber (d .outcome)) (d .price) (d .rounds) (d .victims) (subst Says (decided-unique d′ d e) v)
         where
           Says : Decision → Type 0
-          Says z = Verdict (waits rows) (length rows) τ (costOf costs) a (number (z .outcome)) (z .price) (z .rounds) (z .victims)
+          Says z = Verdict (waits rows) (length rows) τ (costAt costs) a (outcomeNumber (z .outcome)) (z .price) (z .rounds) (z .victims)

@@ -21,7 +21,7 @@ use Rattle.sums.specs.Sum.{sum}
 use Rattle.sums.proofs.SumLaws.{sum-mono, sum-const}
 use Rattle.graph.specs.Waits.{waits}
 use Rattle.graph.proofs.WaitLaws.{waits-has, has-waits, waits-below}
-use Rattle.flow.specs.Accepted.{costOf}
+use Rattle.flow.specs.Accepted.{costAt}
 use Rattle.verdict.specs.Checks.{Looped, Strayed, Payable}
 use Rattle.verdict.specs.Checks.Looped.{some, none}
 
@@ -44,18 +44,18 @@ apart-end rows k A l = none (λ j t. A j (omega (arith, waits-below rows j j t))
 -- ---- the costs in range
 
 abbrev pub Fit : List ℕ → ℕ → Type 0
-Fit costs k = (j : ℕ) → j < k → (0 < costOf costs j) × (costOf costs j ≤ 2 ^ 42)
+Fit costs k = (j : ℕ) → j < k → (0 < costAt costs j) × (costAt costs j ≤ 2 ^ 42)
 
 pub fit-turn : (costs : List ℕ) (k : ℕ) → Fit costs k → (getD costs k 0 ≡ 0 → ⊥) → getD costs k 0 ≤ 2 ^ 42 → Fit costs (k + 1)
-unfolding costOf
-fit-turn costs k F ne l = below-more (λ (j : ℕ). (0 < costOf costs j) × (costOf costs j ≤ 2 ^ 42)) k F (omega arith, l)
+unfolding costAt
+fit-turn costs k F ne l = below-more (λ (j : ℕ). (0 < costAt costs j) × (costAt costs j ≤ 2 ^ 42)) k F (omega arith, l)
 
 pub fit-zero : (costs : List ℕ) (k : ℕ) → k < length costs → getD costs k 0 ≡ 0 → Strayed costs true
-unfolding costOf
+unfolding costAt
 fit-zero costs k l e = Strayed.some k l (inl e)
 
 pub fit-dear : (costs : List ℕ) (k : ℕ) → k < length costs → 2 ^ 42 < getD costs k 0 → Strayed costs true
-unfolding costOf
+unfolding costAt
 fit-dear costs k l e = Strayed.some k l (inr e)
 
 pub fit-end : (costs : List ℕ) (k : ℕ) → Fit costs k → length costs ≤ k → Strayed costs false
@@ -66,7 +66,7 @@ fit-end costs k F l = Strayed.none (λ j m. F j (omega arith))
 pub record Added (costs : List ℕ) (k s : ℕ) : Type 0 where
   pub payable : Payable costs
   pub under : k ≤ length costs
-  pub total : s ≡ sum k (costOf costs)
+  pub total : s ≡ sum k (costAt costs)
   pub small : s ≤ k * 2 ^ 42
 
 pub added-start : (costs : List ℕ) → Payable costs → Added costs 0 0
@@ -74,24 +74,24 @@ unfolding sum
 added-start costs P = record { payable = P; under = zero-le; total = refl; small = zero-le }
 
 pub added-turn : (costs : List ℕ) (k s : ℕ) → Added costs k s → k < length costs → Added costs (k + 1) (s + getD costs k 0)
-unfolding sum costOf
+unfolding sum costAt
 added-turn costs k s A l = record {
   payable = A .payable;
   under = omega arith;
-  total = ap (λ (z : ℕ). z + getD costs k 0) (A .total) ∙ ap (λ (z : ℕ). sum z (costOf costs)) (suc-eq-add-one k);
+  total = ap (λ (z : ℕ). z + getD costs k 0) (A .total) ∙ ap (λ (z : ℕ). sum z (costAt costs)) (suc-eq-add-one k);
   small = let e = A .payable .each k l in omega (arith, e, A .small);
 }
 
 -- what is added fits
 pub added-fits : (costs : List ℕ) (k s : ℕ) → Added costs k s → k < length costs → s + getD costs k 0 < 2 ^ 64
-unfolding costOf
+unfolding costAt
 added-fits costs k s A l = let e = A .payable .each k l in omega (arith, e, A .small, A .payable .few)
 
-pub added-end : (costs : List ℕ) (k s : ℕ) → Added costs k s → length costs ≤ k → s ≡ sum (length costs) (costOf costs)
-added-end costs k s A l = let e : k ≡ length costs = omega (arith, A .under) in A .total ∙ ap (λ (z : ℕ). sum z (costOf costs)) e
+pub added-end : (costs : List ℕ) (k s : ℕ) → Added costs k s → length costs ≤ k → s ≡ sum (length costs) (costAt costs)
+added-end costs k s A l = let e : k ≡ length costs = omega (arith, A .under) in A .total ∙ ap (λ (z : ℕ). sum z (costAt costs)) e
 
 -- the sum of at most 64 such costs
-pub payable-sum : (costs : List ℕ) → Payable costs → sum (length costs) (costOf costs) ≤ 64 * 2 ^ 42
+pub payable-sum : (costs : List ℕ) → Payable costs → sum (length costs) (costAt costs) ≤ 64 * 2 ^ 42
 payable-sum costs P =
-    let m = sum-mono (length costs) (costOf costs) (λ j. 2 ^ 42) (P .each) in
+    let m = sum-mono (length costs) (costAt costs) (λ j. 2 ^ 42) (P .each) in
     omega (arith, m, sum-const (length costs) (2 ^ 42), P .few)

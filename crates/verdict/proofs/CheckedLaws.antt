@@ -18,7 +18,7 @@ use lib.ListN.{length}
 use Rattle.sums.specs.Sum.{sum}
 use Rattle.graph.specs.Waits.{waits, Known}
 use Rattle.graph.specs.Waits.Known.{all, stray as named}
-use Rattle.flow.specs.Accepted.{costOf}
+use Rattle.flow.specs.Accepted.{costAt}
 use Rattle.verdict.specs.Refusals.{Fault, Faultless, Due}
 use Rattle.verdict.specs.Refusals.Fault.{empty, crowded, uneven, short, stray, looped, absent, free, dear, heavy}
 use Rattle.verdict.specs.Refusals.Due.{refused}
@@ -33,8 +33,8 @@ pub record Checked (rows costs : List ℕ) (τ work m : ℕ) : Type 0 where
   pub known : 4 < m → (j i : ℕ) → T (waits rows j i) → i < length rows
   pub apart : 5 < m → (j : ℕ) → T (waits rows j j) → ⊥
   pub there : 6 < m → τ < length rows
-  pub fit : 7 < m → (j : ℕ) → j < length rows → (0 < costOf costs j) × (costOf costs j ≤ 2 ^ 42)
-  pub light : 8 < m → suc (sum (length rows) (costOf costs)) ≤ 2 ^ 63
+  pub fit : 7 < m → (j : ℕ) → j < length rows → (0 < costAt costs j) × (costAt costs j ≤ 2 ^ 42)
+  pub light : 8 < m → suc (sum (length rows) (costAt costs)) ≤ 2 ^ 63
 
 module _ (rows costs : List ℕ) (τ work : ℕ) where
   pub checked-first : (m : ℕ) → Checked rows costs τ work m → (j : ℕ) → j < m → Fault rows costs τ work j → ⊥
@@ -162,12 +162,12 @@ module _ (rows costs : List ℕ) (τ work : ℕ) where
   }
 
   -- the sum that was added up is that of all jobs
-  pub checked-sum : Checked rows costs τ work 8 → (s : ℕ) → s ≡ sum (length costs) (costOf costs) → s + 1 ≡ suc (sum (length rows) (costOf costs))
+  pub checked-sum : Checked rows costs τ work 8 → (s : ℕ) → s ≡ sum (length costs) (costAt costs) → s + 1 ≡ suc (sum (length rows) (costAt costs))
   checked-sum C s e =
-      let q = ap (λ (z : ℕ). sum z (costOf costs)) (C .even (omega arith)) in
+      let q = ap (λ (z : ℕ). sum z (costAt costs)) (C .even (omega arith)) in
       omega (arith, e, q)
 
-  pub checked-9 : Checked rows costs τ work 8 → (s : ℕ) → s ≡ sum (length costs) (costOf costs) → s + 1 ≤ 2 ^ 63 → Checked rows costs τ work 9
+  pub checked-9 : Checked rows costs τ work 8 → (s : ℕ) → s ≡ sum (length costs) (costAt costs) → s + 1 ≤ 2 ^ 63 → Checked rows costs τ work 9
   checked-9 C s e a = record {
     some = λ l. C .some (omega arith);
     few = λ l. C .few (omega arith);
@@ -201,7 +201,7 @@ module _ (rows costs : List ℕ) (τ work : ℕ) where
   fault-7 true C (Strayed.some j l k) e = let m : j < length rows = omega (arith, C .even (omega arith)) in ⊎-elim (free j m) (dear j m) k
   fault-7 false C k e = absurd (subst T (sym e) tt)
 
-  pub fault-8 : Checked rows costs τ work 8 → (s : ℕ) → s ≡ sum (length costs) (costOf costs) → 2 ^ 63 < s + 1 → Fault rows costs τ work 8
+  pub fault-8 : Checked rows costs τ work 8 → (s : ℕ) → s ≡ sum (length costs) (costAt costs) → 2 ^ 63 < s + 1 → Fault rows costs τ work 8
   fault-8 C s e l = heavy (subst (λ (z : ℕ). 2 ^ 63 < z) (checked-sum C s e) l)
 
   -- a fault found after the checks before it is the refusal that is due

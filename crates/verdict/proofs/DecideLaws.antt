@@ -34,10 +34,9 @@ use Rattle.network.specs.Rounds.Rounds.{none as no-round}
 use Rattle.network.specs.Arcs.{inn, out, within, total, jobCapacity, capacity}
 use Rattle.network.specs.Sets.{Exactly, Best, price}
 use Rattle.network.proofs.ArcLaws.{net-unused}
-use Rattle.network.proofs.FlowLaws.{flowOn}
 use Rattle.network.proofs.SinkSide.{Crossing}
 use Rattle.network.proofs.BestLaws.{crossing-best, best-price}
-use Rattle.flow.specs.Accepted.{costOf, Accepted}
+use Rattle.flow.specs.Accepted.{costAt, Accepted}
 use Rattle.flow.specs.Cleared.{Cleared}
 use Rattle.flow.specs.Flowed.{Side, Ends, Flowed}
 use Rattle.flow.specs.Flowed.Ends.{settled, unfinished as ends-unfinished}
@@ -109,11 +108,11 @@ module _ (rows costs : List ℕ) (τ x : ℕ) (X : MaskOf (InX (waits rows) (len
     unmoved : Flows rows costs τ 0 before before
     unfolding capacity
     unmoved = record {
-      room = capacity (waits rows) (has x) (length rows) τ (costOf costs);
+      room = capacity (waits rows) (has x) (length rows) τ (costAt costs);
       rounds = record { x = has x; exact = x-exact; made = no-round (λ a b la lb. refl) };
       flow = λ u v lu lv.
           B (u * length rows + v) (digits-lt lu lv)
-          ∙ sym (net-unused (within (waits rows) (has x)) (jobCapacity (has x) τ (costOf costs)) (suc (total (length rows) (has x) (costOf costs))) u v (within-apart u));
+          ∙ sym (net-unused (within (waits rows) (has x)) (jobCapacity (has x) τ (costAt costs)) (suc (total (length rows) (has x) (costAt costs))) u v (within-apart u));
       size = refl;
       rest = λ i l. refl;
     }
@@ -123,7 +122,7 @@ module _ (rows costs : List ℕ) (τ x : ℕ) (X : MaskOf (InX (waits rows) (len
     decide-waits allowance f = answers _ before F (stays f) unmoved
 
     module _ (allowance : ℕ) (after : List ℕ) (k : ℕ) (left : Bool) (ins outs : ℕ) (M : Flowed rows costs τ x allowance before after k left ins outs) where
-      abbrev after-made : After (waits rows) (length rows) τ (costOf costs) k (M .room)
+      abbrev after-made : After (waits rows) (length rows) τ (costAt costs) k (M .room)
       after-made = record { x = has x; exact = x-exact; made = M .made }
 
       flows-made : Flows rows costs τ k before after
@@ -133,9 +132,9 @@ module _ (rows costs : List ℕ) (τ x : ℕ) (X : MaskOf (InX (waits rows) (len
           → (d : Decision) → d ≡ record { outcome = NotYet; price = 0; rounds = k; victims = 0 } → Called rows costs τ allowance before (Decided d) after
       decide-unfinished p g l d e =
           let z = ends-left (M .room) (length rows) τ k allowance left ins outs (M .ends) l in
-          let q : Verdict (waits rows) (length rows) τ (costOf costs) allowance 3 0 k 0 =
-          subst (λ (i : ℕ). Verdict (waits rows) (length rows) τ (costOf costs) allowance 3 0 i 0) (sym (z .0))
-          (unfinished p g (M .room) (subst (λ (i : ℕ). After (waits rows) (length rows) τ (costOf costs) i (M .room)) (z .0) after-made) (z .1)) in
+          let q : Verdict (waits rows) (length rows) τ (costAt costs) allowance 3 0 k 0 =
+          subst (λ (i : ℕ). Verdict (waits rows) (length rows) τ (costAt costs) allowance 3 0 i 0) (sym (z .0))
+          (unfinished p g (M .room) (subst (λ (i : ℕ). After (waits rows) (length rows) τ (costAt costs) i (M .room)) (z .0) after-made) (z .1)) in
           rw e (answers _ after F q flows-made)
 
       -- ---- no path is left
@@ -180,15 +179,15 @@ module _ (rows costs : List ℕ) (τ x : ℕ) (X : MaskOf (InX (waits rows) (len
           complete = λ u lu q. has-test set u (parts-set u (test-has x u (q .member)) (O .complete u (record { job = lu; home = q .home })) (λ h. q .barred (I .sound u h .home)));
         }
 
-        best : Best (waits rows) (length rows) τ (costOf costs) (has set)
-        best = crossing-best (waits rows) (length rows) τ (has x) x-exact lτ apart (costOf costs) k (M .room) (M .made) stuck (has set) crossing
+        best : Best (waits rows) (length rows) τ (costAt costs) (has set)
+        best = crossing-best (waits rows) (length rows) τ (has x) x-exact lτ apart (costAt costs) k (M .room) (M .made) stuck (has set) crossing
 
         -- its price is what flows into T
-        pub price-inflow : inflowOf after (length rows) τ ≡ price (length rows) (costOf costs) (has set)
-        unfolding inflowOf flowOn
+        pub price-inflow : inflowOf after (length rows) τ ≡ price (length rows) (costAt costs) (has set)
+        unfolding inflowOf
         price-inflow =
             sum-cong (length rows) (λ v. getD after (v * length rows + τ) 0) (λ v. gate (within (waits rows) (has x) v τ) (M .room (inn τ) (out v))) (λ v lv. M .flow v τ lv lτ)
-            ∙ sym (best-price (waits rows) (length rows) τ (has x) x-exact lτ apart (costOf costs) k (M .room) (M .made) stuck (has set) best)
+            ∙ sym (best-price (waits rows) (length rows) τ (has x) x-exact lτ apart (costAt costs) k (M .room) (M .made) stuck (has set) best)
 
         -- which can be added up: no set costs more than all jobs
         pub inflow-summable : Summable after (length rows) τ
@@ -200,7 +199,7 @@ module _ (rows costs : List ℕ) (τ x : ℕ) (X : MaskOf (InX (waits rows) (len
           fits = omega (
             arith,
             price-inflow,
-            sum-mono (length rows) (λ u. gate (has set u) (costOf costs u)) (costOf costs) (λ u l. gate-le (has set u) (costOf costs u)),
+            sum-mono (length rows) (λ u. gate (has set u) (costAt costs u)) (costAt costs) (λ u l. gate-le (has set u) (costAt costs u)),
             faultless-bounded rows costs τ (length before) F,
           );
         }
@@ -217,16 +216,16 @@ module _ (rows costs : List ℕ) (τ x : ℕ) (X : MaskOf (InX (waits rows) (len
 
         pub decide-itself : (q v : ℕ) → q ≡ inflowOf after (length rows) τ → getD costs τ 0 < q → v ≡ 2 ^ τ
             → Called rows costs τ allowance before (Decided (record { outcome = AbortT; price = getD costs τ 0; rounds = k; victims = v })) after
-        unfolding costOf
+        unfolding costAt
         decide-itself q v e c f = rw f (answers _ after F
-            (itself p g k (M .room) after-made stuck (M .limit) (has set) best (subst (λ (z : ℕ). costOf costs τ < z) (e ∙ price-inflow) c)) flows-made)
+            (itself p g k (M .room) after-made stuck (M .limit) (has set) best (subst (λ (z : ℕ). costAt costs τ < z) (e ∙ price-inflow) c)) flows-made)
 
         pub decide-others : (q : ℕ) → q ≡ inflowOf after (length rows) τ → q ≤ getD costs τ 0
             → Called rows costs τ allowance before (Decided (record { outcome = AbortOthers; price = q; rounds = k; victims = set })) after
-        unfolding costOf
+        unfolding costAt
         decide-others q e c = answers _ after F
-            (subst (λ (z : ℕ). Verdict (waits rows) (length rows) τ (costOf costs) allowance 2 z k set) (sym (e ∙ price-inflow))
-            (others p g k (M .room) after-made stuck (M .limit) (has set) best (subst (λ (z : ℕ). z ≤ costOf costs τ) (e ∙ price-inflow) c) set victims)) flows-made
+            (subst (λ (z : ℕ). Verdict (waits rows) (length rows) τ (costAt costs) allowance 2 z k set) (sym (e ∙ price-inflow))
+            (others p g k (M .room) after-made stuck (M .limit) (has set) best (subst (λ (z : ℕ). z ≤ costAt costs τ) (e ∙ price-inflow) c) set victims)) flows-made
 
 -- ---- the list before it was cleared
 

@@ -17,7 +17,7 @@ use lib.Dec.{T}
 use lib.ListN.{length}
 use Rattle.sums.specs.Sum.{sum}
 use Rattle.graph.specs.Waits.{waits, Jobs}
-use Rattle.flow.specs.Accepted.{costOf}
+use Rattle.flow.specs.Accepted.{costAt}
 use Rattle.verdict.specs.Refusals.{Fault, Refusal, Faultless, Due}
 use Rattle.verdict.specs.Refusals.Due.{refused, none}
 use Rattle.verdict.specs.Refusals.Fault.{empty, crowded, uneven, short, stray, looped, absent, free, dear, heavy}
@@ -97,17 +97,17 @@ module _ (rows costs : List ℕ) (τ work : ℕ) where
     pub faultless-apart : (u : ℕ) → T (waits rows u u) → ⊥
     faultless-apart u t = f 5 (looped u t)
 
-    pub faultless-positive : (u : ℕ) → u < length rows → 0 < costOf costs u
-    faultless-positive u l = go (ℕ-discrete (costOf costs u) 0)
+    pub faultless-positive : (u : ℕ) → u < length rows → 0 < costAt costs u
+    faultless-positive u l = go (ℕ-discrete (costAt costs u) 0)
       where
-        go : Dec (costOf costs u ≡ 0) → 0 < costOf costs u
+        go : Dec (costAt costs u ≡ 0) → 0 < costAt costs u
         go (yes e) = absurd (f 7 (free u l e))
         go (no e) = omega arith
 
-    pub faultless-bounded : suc (sum (length rows) (costOf costs)) ≤ 2 ^ 63
-    faultless-bounded = go (decLt (2 ^ 63) (suc (sum (length rows) (costOf costs))))
+    pub faultless-bounded : suc (sum (length rows) (costAt costs)) ≤ 2 ^ 63
+    faultless-bounded = go (decLt (2 ^ 63) (suc (sum (length rows) (costAt costs))))
       where
-        go : Dec (2 ^ 63 < suc (sum (length rows) (costOf costs))) → suc (sum (length rows) (costOf costs)) ≤ 2 ^ 63
+        go : Dec (2 ^ 63 < suc (sum (length rows) (costAt costs))) → suc (sum (length rows) (costAt costs)) ≤ 2 ^ 63
         go (yes l) = absurd (f 8 (heavy l))
         go (no l) = omega arith
 

@@ -34,7 +34,7 @@ use Rattle.network.specs.Sets.{price}
 use Rattle.network.proofs.SetLaws.{inX, inx-exact}
 use Rattle.network.proofs.BestLaws.{sinkSet}
 use Rattle.network.proofs.Computed.{ringed, ringed-right, run, Ran, run-right, run-best, unreached-stuck}
-use Rattle.flow.specs.Accepted.{costOf}
+use Rattle.flow.specs.Accepted.{costAt}
 use Rattle.verdict.specs.Answers.{After, Victims, Verdict}
 use Rattle.verdict.specs.Answers.Verdict.{stays, itself, others, unfinished}
 use Rattle.verdict.specs.Worked.{Case, Right, All, table}
@@ -106,7 +106,7 @@ abbrev n : Case → ℕ
 n c = length (c .rows)
 
 abbrev cost : Case → ℕ → ℕ
-cost c = costOf (c .costs)
+cost c = costAt (c .costs)
 
 abbrev x : Case → ℕ → Bool
 x c = inX (w c) (n c) 0
@@ -216,5 +216,5 @@ each (c ∷ cs) t = (test-right c (both-left (test c) (every cs) t), each cs (bo
 
 -- THE THEOREM: each case of the table is right
 pub worked : All Right table
-unfolding every test ended settled says agrees same any waits ringed run capacity inX costOf price sinkSet
+unfolding every test ended settled says agrees same any waits ringed run capacity inX costAt price sinkSet
 worked = each table tt

@@ -1,7 +1,7 @@
 -- The verdict of an accepted snapshot (document 01, "The verdict", "The network and its rounds", "What a call takes, returns and writes").
 -- w tests the waits of n jobs, τ is the timed-out job, cost the jobs' costs.
 --
---   number o                           the document's number of an outcome: "00 wait, 01 abort T, 02 abort others, 03 not yet"
+--   outcomeNumber o                    the document's number of an outcome: "00 wait, 01 abort T, 02 abort others, 03 not yet"
 --   After w n τ cost k r               k rounds on the network of X lead to the rooms r
 --   Victims n M v                      the mask v names the jobs of the set M: "job k as 2^k"
 --   Verdict w n τ cost a o p k v       with the allowance a the verdict has the outcome o, by its number, the price p, k rounds and the victims v
@@ -19,11 +19,11 @@ use Rattle.network.specs.Sets.{Exactly, Best, price}
 use Rattle.verdict.specs.declared.Outcome.{Outcome}
 use Rattle.verdict.specs.declared.Outcome.the-variants.{Wait, AbortT, AbortOthers, NotYet}
 
-abbrev pub number : Outcome → ℕ
-number Wait = 0
-number AbortT = 1
-number AbortOthers = 2
-number NotYet = 3
+abbrev pub outcomeNumber : Outcome → ℕ
+outcomeNumber Wait = 0
+outcomeNumber AbortT = 1
+outcomeNumber AbortOthers = 2
+outcomeNumber NotYet = 3
 
 pub record After (w : ℕ → ℕ → Bool) (n τ : ℕ) (cost : ℕ → ℕ) (k : ℕ) (r : Room) : Type 0 where
   -- X as a test of jobs

@@ -9,25 +9,23 @@ use mathlib.Core.List.{List}
 use Prim.Native.Nat.{ℕ, _+_, _*_, _<_, _≤_}
 use lib.ListN.{length, getD}
 use Rattle.bits.specs.Mask.{MaskOf}
-use Rattle.sums.specs.Sum.{gate}
 use Rattle.graph.specs.Waits.{waits}
 use Rattle.graph.specs.Rings.{InX, RingThrough}
 use Rattle.network.specs.Rooms.{Room}
-use Rattle.network.specs.Arcs.{inn, out, within}
-use Rattle.flow.specs.Accepted.{costOf}
+use Rattle.network.specs.Arcs.{flowOn, within}
+use Rattle.flow.specs.Accepted.{costAt}
 use Rattle.verdict.specs.declared.Decision.{Decision}
 use Rattle.verdict.specs.declared.Answer.{Answer}
 use Rattle.verdict.specs.declared.Answer.the-variants.{Refused, Decided}
 use Rattle.verdict.specs.Refusals.{Refusal, Faultless}
-use Rattle.verdict.specs.Answers.{number, After, Verdict}
+use Rattle.verdict.specs.Answers.{outcomeNumber, After, Verdict}
 
 pub record Flows (rows costs : List ℕ) (τ k : ℕ) (before after : List ℕ) : Type 0 where
   pub room : Room
-  pub rounds : After (waits rows) (length rows) τ (costOf costs) k room
-  -- "place u × n + v of the work list holds the flow on the wait from u to v after the counted rounds, 0 where there is no such wait within X":
-  -- the flow on an arc is the room back along it
+  pub rounds : After (waits rows) (length rows) τ (costAt costs) k room
+  -- "place u × n + v of the work list holds the flow on the wait from u to v after the counted rounds, 0 where there is no such wait within X"
   pub flow : (u v : ℕ) → u < length rows → v < length rows
-      → getD after (u * length rows + v) 0 ≡ gate (within (waits rows) (rounds .x) u v) (room (inn v) (out u))
+      → getD after (u * length rows + v) 0 ≡ flowOn (within (waits rows) (rounds .x)) room u v
   -- "Places from n × n on keep their values"
   pub size : length after ≡ length before
   pub rest : (i : ℕ) → length rows * length rows ≤ i → getD after i 0 ≡ getD before i 0
@@ -42,5 +40,5 @@ pub data Called (rows costs : List ℕ) (τ allowance : ℕ) (before : List ℕ)
   -- "A refusal returns its number; all lent lists stay unwritten."
   refuses : (k : ℕ) → Refusal rows costs τ (length before) k → Called rows costs τ allowance before (Refused k) before
   answers : (d : Decision) (after : List ℕ) → Faultless rows costs τ (length before)
-      → Verdict (waits rows) (length rows) τ (costOf costs) allowance (number (d .outcome)) (d .price) (d .rounds) (d .victims)
+      → Verdict (waits rows) (length rows) τ (costAt costs) allowance (outcomeNumber (d .outcome)) (d .price) (d .rounds) (d .victims)
       → Flows rows costs τ (d .rounds) before after → Called rows costs τ allowance before (Decided d) after

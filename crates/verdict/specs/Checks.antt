@@ -11,16 +11,16 @@ use Prim.Native.Nat.{ℕ, _^_, _<_, _≤_}
 use lib.Dec.{T}
 use lib.ListN.{length}
 use Rattle.graph.specs.Waits.{waits}
-use Rattle.flow.specs.Accepted.{costOf}
+use Rattle.flow.specs.Accepted.{costAt}
 
 pub data Looped (rows : List ℕ) : Bool → Type 0 where
   some : (j : ℕ) → T (waits rows j j) → Looped rows true
   none : ((j : ℕ) → T (waits rows j j) → ⊥) → Looped rows false
 
 pub data Strayed (costs : List ℕ) : Bool → Type 0 where
-  some : (j : ℕ) → j < length costs → (costOf costs j ≡ 0) ⊎ (2 ^ 42 < costOf costs j) → Strayed costs true
-  none : ((j : ℕ) → j < length costs → (0 < costOf costs j) × (costOf costs j ≤ 2 ^ 42)) → Strayed costs false
+  some : (j : ℕ) → j < length costs → (costAt costs j ≡ 0) ⊎ (2 ^ 42 < costAt costs j) → Strayed costs true
+  none : ((j : ℕ) → j < length costs → (0 < costAt costs j) × (costAt costs j ≤ 2 ^ 42)) → Strayed costs false
 
 pub record Payable (costs : List ℕ) : Type 0 where
   pub few : length costs ≤ 64
-  pub each : (j : ℕ) → j < length costs → costOf costs j ≤ 2 ^ 42
+  pub each : (j : ℕ) → j < length costs → costAt costs j ≤ 2 ^ 42

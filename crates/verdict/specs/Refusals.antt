@@ -13,7 +13,7 @@ use lib.Dec.{T}
 use lib.ListN.{length}
 use Rattle.sums.specs.Sum.{sum}
 use Rattle.graph.specs.Waits.{waits}
-use Rattle.flow.specs.Accepted.{costOf}
+use Rattle.flow.specs.Accepted.{costAt}
 
 pub data Fault (rows costs : List ℕ) (τ work : ℕ) : ℕ → Type 0 where
   -- 1: "no rows, or more than 64"
@@ -30,10 +30,10 @@ pub data Fault (rows costs : List ℕ) (τ work : ℕ) : ℕ → Type 0 where
   -- 6: "T is n or above"
   absent : length rows ≤ τ → Fault rows costs τ work 6
   -- 7: "a cost is 0 or above 2^42"
-  free : (j : ℕ) → j < length rows → costOf costs j ≡ 0 → Fault rows costs τ work 7
-  dear : (j : ℕ) → j < length rows → 2 ^ 42 < costOf costs j → Fault rows costs τ work 7
+  free : (j : ℕ) → j < length rows → costAt costs j ≡ 0 → Fault rows costs τ work 7
+  dear : (j : ℕ) → j < length rows → 2 ^ 42 < costAt costs j → Fault rows costs τ work 7
   -- 8: "the sum of all costs plus one is above 2^63"
-  heavy : 2 ^ 63 < suc (sum (length rows) (costOf costs)) → Fault rows costs τ work 8
+  heavy : 2 ^ 63 < suc (sum (length rows) (costAt costs)) → Fault rows costs τ work 8
 
 pub record Refusal (rows costs : List ℕ) (τ work k : ℕ) : Type 0 where
   pub fault : Fault rows costs τ work k

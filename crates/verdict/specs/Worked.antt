@@ -9,7 +9,7 @@ use mathlib.Core.List.{List, [], _∷_}
 use Prim.Native.Nat.{ℕ}
 use lib.ListN.{length}
 use Rattle.graph.specs.Waits.{waits}
-use Rattle.flow.specs.Accepted.{costOf}
+use Rattle.flow.specs.Accepted.{costAt}
 use Rattle.verdict.specs.Answers.{Verdict}
 
 pub record Case : Type 0 where
@@ -25,7 +25,7 @@ abbrev pub entry : List ℕ → List ℕ → ℕ → ℕ → ℕ → ℕ → ℕ
 entry r c a o p k v = record { rows = r; costs = c; allowance = a; outcome = o; price = p; rounds = k; victims = v }
 
 abbrev pub Right : Case → Type 0
-Right c = Verdict (waits (c .rows)) (length (c .rows)) 0 (costOf (c .costs)) (c .allowance) (c .outcome) (c .price) (c .rounds) (c .victims)
+Right c = Verdict (waits (c .rows)) (length (c .rows)) 0 (costAt (c .costs)) (c .allowance) (c .outcome) (c .price) (c .rounds) (c .victims)
 
 abbrev pub All : (Case → Type 0) → List Case → Type 0
 All P [] = Unit {0}

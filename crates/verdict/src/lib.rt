@@ -7,10 +7,10 @@ ghost use mathlib.Core.Path.{_≡_};
 ghost use Prim.Native.Nat.{_≤_};
 ghost use lib.ListN.{length};
 ghost use Rattle.sums.specs.Sum.{sum};
-ghost use Rattle.flow.specs.Accepted.{costOf};
+ghost use Rattle.flow.specs.Accepted.{costAt};
 ghost use Rattle.verdict.specs.Checks.{Looped, Strayed, Payable};
 ghost use Rattle.verdict.specs.Refusals.{Due};
-ghost use Rattle.verdict.specs.Answers.{number};
+ghost use Rattle.verdict.specs.Answers.{outcomeNumber};
 ghost use Rattle.verdict.specs.Called.{Ringed, Called};
 ghost use Rattle.verdict.specs.declared.Answer.the-variants.{Decided as Answer·Decided};
 
@@ -24,7 +24,7 @@ pub enum Outcome {
 
 // The document's number of an outcome.
 pub fn outcome_number(outcome: Outcome) -> u8
-    ensures { λ r. ⌜ r ≡ number outcome ⌝ }
+    ensures { λ r. ⌜ r ≡ outcomeNumber outcome ⌝ }
 {
     match outcome {
         Outcome::Wait => 0,
@@ -85,7 +85,7 @@ fn costs_stray(costs: &[u64]) -> bool
 // The sum of all costs.
 fn sum_of(costs: &[u64]) -> u64
     requires { ⌜ Payable (now costs) ⌝ }
-    ensures { λ r. ⌜ r ≡ sum (length (now (costs .entry))) (costOf (now (costs .entry))) ⌝ }
+    ensures { λ r. ⌜ r ≡ sum (length (now (costs .entry))) (costAt (now (costs .entry))) ⌝ }
 {
     let mut total = 0u64;
     let mut u = 0;

@@ -1,10 +1,10 @@
--- Reaching: the computed test and the fact, walks put together and turned round, and how far away what is reached lies.
+-- Reaching: the computed test and the fact, a step more, and how far away what is reached lies.
 -- Assumes nothing.
 --
 --   reach st n t a                       t is reached from a, computed
 --   reach-walk, walk-reach               the test and walks
 --   reach-reaches, reaches-reach         the test and the fact
---   reaches-here, reaches-step, reaches-on, reaches-trans, reaches-in, reaches-turned
+--   reaches-here, reaches-step, reaches-on, reaches-in
 --   reaches-away, away-unique            what is reached is a definite number of steps away, below N
 use mathlib.Core.Path.{_≡_, refl, sym, ap, _∙_, subst}
 use mathlib.Core.Bool.{Bool}
@@ -40,14 +40,6 @@ pub reach-in : (st : ℕ → ℕ → Bool) (n t a : ℕ) → T (reach st n t a) 
 unfolding reach
 reach-in st n t a h = dist-in st n t a (ltb→lt (dist st n t a) n h)
 
--- one more step at the end of a walk
-walk-snoc : (st : ℕ → ℕ → Bool) (n b t a : ℕ) (p : List ℕ) → a < n → t < n → Walk st n a b p → T (st b t) → T (reach st n t a)
-walk-snoc st n b t a [] la lt w s = reach-step st n t a t la (subst (λ (z : ℕ). T (st z t)) (sym w) s) (reach-self st n t lt)
-walk-snoc st n b t a (c ∷ p) la lt w s = reach-step st n t a c la (w .1) (walk-snoc st n b t c p (w .0) lt (w .2) s)
-
-pub reach-on : (st : ℕ → ℕ → Bool) (n b t a : ℕ) → t < n → T (reach st n b a) → T (st b t) → T (reach st n t a)
-reach-on st n b t a lt h s = let r = reach-walk st n b a h in walk-snoc st n b t a (r .0) (reach-in st n b a h) lt (r .1) s
-
 -- ---- the fact
 
 pub reach-reaches : (st : ℕ → ℕ → Bool) (n t a : ℕ) → T (reach st n t a) → Reaches st n a t
@@ -71,14 +63,6 @@ reaches-on st n a b c r s l = go a (r .path) (r .walk)
     go x [] e = reaches-step st n x c c l (subst (λ (z : ℕ). T (st z c)) (sym e) s) (reaches-here st n c)
     go x (y ∷ p) w = reaches-step st n x y c (w .0) (w .1) (go y p (w .2))
 
--- one walk behind another
-pub reaches-trans : (st : ℕ → ℕ → Bool) (n a b c : ℕ) → Reaches st n a b → Reaches st n b c → Reaches st n a c
-reaches-trans st n a b c r q = go a (r .path) (r .walk)
-  where
-    go : (x : ℕ) (p : List ℕ) → Walk st n x b p → Reaches st n x c
-    go x [] e = subst (λ (z : ℕ). Reaches st n z c) (sym e) q
-    go x (y ∷ p) w = reaches-step st n x y c (w .0) (w .1) (go y p (w .2))
-
 -- what is reached is below n
 pub reaches-in : (st : ℕ → ℕ → Bool) (n a t : ℕ) → a < n → Reaches st n a t → t < n
 reaches-in st n a t l r = go a l (r .path) (r .walk)
@@ -86,14 +70,6 @@ reaches-in st n a t l r = go a l (r .path) (r .walk)
     go : (x : ℕ) → x < n → (p : List ℕ) → Walk st n x t p → t < n
     go x m [] e = subst (λ (z : ℕ). z < n) e m
     go x m (y ∷ p) w = go y (w .0) p (w .2)
-
--- where the steps are turned round, so is reaching
-pub reaches-turned : (st back : ℕ → ℕ → Bool) (n m : ℕ) → ((a b : ℕ) → T (st a b) → T (back b a) × (a < m)) → (a t : ℕ) → Reaches st n a t → Reaches back m t a
-reaches-turned st back n m turned a t r = go a (r .path) (r .walk)
-  where
-    go : (x : ℕ) (p : List ℕ) → Walk st n x t p → Reaches back m t x
-    go x [] e = subst (λ (z : ℕ). Reaches back m z x) e (reaches-here back m x)
-    go x (y ∷ p) w = let s = turned x y (w .1) in reaches-on back m t y x (go y p (w .2)) (s .0) (s .1)
 
 -- ---- how far away
 

@@ -4,7 +4,7 @@
 --   value-small                            a digit is worth less than 16
 --   front-digit, front-other, front-end    a digit, another byte, the end of the text: what the number and its bytes are there
 --   grown-same                             numbers that are equal modulo 2 ^ 64 stay so behind further digits
---   taken-fits, taken-some                 a number ends within the text, and takes a byte where there is one
+--   unrefused-fits, taken-some                 a number ends within the text, and takes a byte where there is one
 --   Reading                                the loop's invariant; reading-start, reading-digit, reading-other, reading-end
 --   word-past, word-inside, word-on        the place behind a number: not before it, within the text, and further on where there is text left
 --   next-past, next-inside, next-on        the same of what `word` gave
@@ -47,10 +47,10 @@ grown-same (c ∷ t) a b e = go (isDigit c) (grown-same t (a * 16 + digit c) (b 
     go true f = f
     go false f = e
 
-taken-fits : (t : List ℕ) → taken t ≤ length t
+unrefused-fits : (t : List ℕ) → taken t ≤ length t
 unfolding taken
-taken-fits [] = zero-le
-taken-fits (c ∷ t) = go (isDigit c) (taken-fits t)
+unrefused-fits [] = zero-le
+unrefused-fits (c ∷ t) = go (isDigit c) (unrefused-fits t)
   where
     go : (d : Bool) → taken t ≤ length t → cond d (1 + taken t) 1 ≤ suc (length t)
     go true h = omega arith
@@ -112,7 +112,7 @@ module _ (t : List ℕ) (at : ℕ) where
 
   pub word-inside : at ≤ length t → wordAt t at .next ≤ length t
   unfolding wordAt
-  word-inside h = omega (arith, taken-fits (drop at t), length-drop at t)
+  word-inside h = omega (arith, unrefused-fits (drop at t), length-drop at t)
 
   pub word-on : at < length t → at < wordAt t at .next
   unfolding wordAt

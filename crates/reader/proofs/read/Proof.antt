@@ -1,5 +1,5 @@
 -- `reader::read`: refused, with nothing written, or taken, with both lists filled.
-use Rattle.reader.proofs.ReadLaws.{read-refused, read-asks, read-taken}
+use Rattle.reader.proofs.ReadLaws.{read-refused, read-asks, read-unrefused}
 use borrow.Author.Needs.{needs}
 use Rattle.reader.proofs.read.Statement.{statement}
 use Rattle.reader.proofs.read.Tie as tie
@@ -32,7 +32,7 @@ same-length-2 : tie.Need-same-length-2
 same-length-2 c = search needs
 
 returns-2 : tie.Need-returns-2
-returns-2 c = read-taken _ _ _ _ (c .before .before .before .before .before .before .before .before .before .before .before .first-refusal .ensures) (c .before .before .before .before .before .before .before .before .before .if1 .left) _ (c .before .before .before .before .before .before .before .before .read .ensures) _ _ (c .before .before .before .before .before .before .fill-rows .ensures) (c .before .before .fill-costs .ensures)
+returns-2 c = read-unrefused _ _ _ _ (c .before .before .before .before .before .before .before .before .before .before .before .first-refusal .ensures) (c .before .before .before .before .before .before .before .before .before .if1 .left) _ (c .before .before .before .before .before .before .before .before .read .ensures) _ _ (c .before .before .before .before .before .before .fill-rows .ensures) (c .before .before .fill-costs .ensures)
 
 pub read-spec : {M : Type 1} → statement M
 read-spec =

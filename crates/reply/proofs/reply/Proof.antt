@@ -4,7 +4,7 @@ use native.Mathlib.Omega.{arith}
 use mathlib.Core.Path.{refl, sym, _∙_}
 use lib.Seq.{length-take-le}
 use Rattle.reply.specs.Replied.Replied.{short}
-use Rattle.reply.proofs.GivenLaws.{read-taken, read-size, read-given, read-faultless}
+use Rattle.reply.proofs.GivenLaws.{read-unrefused, read-size, read-given, read-faultless}
 use Rattle.reply.proofs.LineLaws.{reply-refused, reply-answered}
 use Rattle.reply.proofs.reply.Statement.{statement}
 use Rattle.reply.proofs.reply.Tie as tie
@@ -60,7 +60,7 @@ returns-3 c =
     let s = r .before .before .before .before .before .before in
     let z = c .before .before .before .before .before .before .before .if2 .left in
     let h = r .read .ensures .header z in
-    reply-answered (s .args .text .now) (s .args .line .now) _ _ _ _ (read-taken _ _ _ _ _ (r .read .result) (r .read .ensures) z) (read-given _ _ _ _ _ (r .read .result) (r .read .ensures) z)
+    reply-answered (s .args .text .now) (s .args .line .now) _ _ _ _ (read-unrefused _ _ _ _ _ (r .read .result) (r .read .ensures) z) (read-given _ _ _ _ _ (r .read .result) (r .read .ensures) z)
     (rw (← h .1, ← h .2) (c .before .before .before .before .decide .ensures)) (r .before .before .before .if1 .left) (c .before .before .write-answer .ensures)
 
 pub reply-spec : {M : Type 1} → statement M

@@ -3,8 +3,8 @@
 --
 --   line-zero          a line with what comes after it gives no refusal only where neither does
 --   Whole h t          the header and every job frame are sound, and T waits somewhere
---   taken-whole        so it is of a text that is taken
---   taken-any          a text that is not refused is taken, whatever the lengths of the lists were, and they are long enough
+--   unrefused-whole    so it is of a text that is not refused
+--   unrefused-any      a text that is not refused is so whatever the lengths of the lists were, and they are long enough
 use mathlib.Core.Path.{_≡_, refl, sym, ap, _∙_, subst}
 use mathlib.Core.Bool.{Bool, true, false, cond, _||_, true≢false}
 use mathlib.Core.List.{List}
@@ -20,14 +20,14 @@ use Rattle.cursor.specs.Frame.{furtherFault}
 use Rattle.cursor.proofs.OrderLaws.{then-zero, when-zero}
 use Rattle.frames.specs.declared.Header.{Header}
 use Rattle.frames.specs.declared.Refusal.{Refusal}
-use Rattle.frames.specs.Records.{accepted}
+use Rattle.frames.specs.Records.{noRefusal}
 use Rattle.frames.specs.Fields.{headerAt}
 use Rattle.faults.specs.HeaderFault.{headerFault}
 use Rattle.frames.specs.Fields.{jobAt}
 use Rattle.faults.specs.JobFault.{jobFault, waitsIn}
 use Rattle.faults.proofs.RangeLaws.{Ranged, header-ranged, Sound, job-sound, job-number}
 use Rattle.refusals.specs.Places.{jobLine, jobPlace}
-use Rattle.refusals.specs.Refused.{onLine, jobsRefusal, refusalOf, Taken}
+use Rattle.refusals.specs.Refused.{onLine, jobsRefusal, refusalOf, Unrefused}
 use Rattle.refusals.proofs.PlaceLaws.{placeAt, place-header, place-next}
 use Rattle.refusals.proofs.PassLaws.{good-header}
 
@@ -85,14 +85,14 @@ further-ends t at e = go (leb (length t) at) refl (badLine t at) e
     go false f false g = absurd (omega arith)
 
 -- no refusal is number 0 at line 0
-jobs-accepted : (h : Header) (t : List ℕ) (k j : ℕ) → jobsRefusal h t k j .number ≡ 0 → jobsRefusal h t k j ≡ accepted
+jobs-unrefused : (h : Header) (t : List ℕ) (k j : ℕ) → jobsRefusal h t k j .number ≡ 0 → jobsRefusal h t k j ≡ noRefusal
 unfolding jobsRefusal
-jobs-accepted h t zero j e =
+jobs-unrefused h t zero j e =
     let p = line-zero _ _ _ e in
     p .1 ∙ line-zero _ _ _ (ap (λ (r : Refusal). r .number) (sym (p .1)) ∙ e) .1
-jobs-accepted h t (suc k) j e =
+jobs-unrefused h t (suc k) j e =
     let p = line-zero _ _ _ e in
-    p .1 ∙ jobs-accepted h t k (suc j) (ap (λ (r : Refusal). r .number) (sym (p .1)) ∙ e)
+    p .1 ∙ jobs-unrefused h t k (suc j) (ap (λ (r : Refusal). r .number) (sym (p .1)) ∙ e)
 
 -- the header of a text and its job frames, where nothing refuses them
 whole : (h : Header) (t : List ℕ) → headerFault t 0 ≡ 0 → Ranged h → jobsRefusal h t (h .n) 0 .number ≡ 0 → Whole h t
@@ -128,12 +128,12 @@ parts rows costs t e =
     or-false true b e = absurd (true≢false e)
     or-false false b e = (refl, e)
 
-pub taken-whole : (t : List ℕ) → Taken t → Whole (headerAt t 0) t
-taken-whole t e =
+pub unrefused-whole : (t : List ℕ) → Unrefused t → Whole (headerAt t 0) t
+unrefused-whole t e =
     let p = parts 64 64 t (ap (λ (r : Refusal). r .number) e) in
     whole (headerAt t 0) t (p .2) (header-ranged t 0 (p .2)) (p .3)
 
-pub taken-any : (rows costs : ℕ) (t : List ℕ) → refusalOf rows costs t .number ≡ 0 → Taken t × (64 ≤ rows) × (64 ≤ costs)
-taken-any rows costs t e =
+pub unrefused-any : (rows costs : ℕ) (t : List ℕ) → refusalOf rows costs t .number ≡ 0 → Unrefused t × (64 ≤ rows) × (64 ≤ costs)
+unrefused-any rows costs t e =
     let p = parts rows costs t e in
-    (good-header 64 64 t (omega arith) (omega arith) (p .4) _ refl (p .2) (headerAt t 0) refl ∙ jobs-accepted (headerAt t 0) t (headerAt t 0 .n) 0 (p .3), p .0, p .1)
+    (good-header 64 64 t (omega arith) (omega arith) (p .4) _ refl (p .2) (headerAt t 0) refl ∙ jobs-unrefused (headerAt t 0) t (headerAt t 0 .n) 0 (p .3), p .0, p .1)
