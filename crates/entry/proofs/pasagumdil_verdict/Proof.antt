@@ -1,20 +1,13 @@
--- `entry::pasagumdil_verdict`: the byte checks, each with its refusal, then the call with lists of the size that n asks for.
+-- `entry::pasagumdil_verdict`: the byte checks, each with its refusal, then the call behind them.
 use native.Mathlib.Omega.{arith}
-use mathlib.Core.Path.{refl}
 use lib.ListN.{length}
-use Rattle.entry.specs.Inside.{Shaped}
-use Rattle.entry.specs.Faults.EntryFault.{brokenRows, narrow}
-use Rattle.entry.proofs.FaultLaws.{passed-1, passed-2, passed-3, shaped, fault-empty, fault-crowded, fault-uneven, fault-short}
-use Rattle.entry.proofs.EntryLaws.{refused-byte}
-use Rattle.entry.proofs.SizeLaws.{square-under}
+use Rattle.relay.specs.Faults.{Shaped}
+use Rattle.relay.specs.Faults.EntryFault.{brokenRows, narrow}
+use Rattle.relay.proofs.FaultLaws.{passed-1, passed-2, passed-3, shaped, fault-empty, fault-crowded, fault-uneven, fault-short}
+use Rattle.relay.proofs.EnteredLaws.{refused-byte}
+use Rattle.relay.proofs.SizeLaws.{square-under}
 use Rattle.entry.proofs.pasagumdil_verdict.Statement.{statement}
 use Rattle.entry.proofs.pasagumdil_verdict.Tie as tie
-use Rattle.entry.proofs.pasagumdil_verdict.Reads as reads
-use Rattle.entry.proofs.pasagumdil_verdict.Lts as lts
-use Rattle.entry.proofs.call_16.Reads as call-16-reads
-use Rattle.entry.proofs.call_32.Reads as call-32-reads
-use Rattle.entry.proofs.call_64.Reads as call-64-reads
-use Rattle.entry.proofs.call_8.Reads as call-8-reads
 
 returns : tie.Need-returns
 returns c =
@@ -54,8 +47,8 @@ shape : (c : tie.Else6)
     → Shaped (c .before .before .before .before .before .before .before .before .before .before .args .rows .now) (c .before .before .before .before .before .before .before .before .before .before .args .costs .now) (length (c .before .before .before .before .before .before .before .before .before .before .args .work .now)) (length (c .before .before .before .before .before .before .before .before .before .before .args .answer .now))
 shape c = shaped _ _ _ _ (passed-3 _ _ (passed-2 _ _ (c .before .before .before .before .before .if1 .left) (c .before .before .before .before .if2 .left) (c .before .before .before .if3 .left)) (c .before .before .if4 .left)) (c .before .if5 .left) (c .if6 .left)
 
-call-8-requires : tie.Need-call-8-requires
-call-8-requires c κs = record { shape = shape (c .before .before .before); count = refl; limit = c .before .before .if7 .taken }
+relay-requires : tie.Need-relay-requires
+relay-requires c κs = shape (c .before .before)
 
 same-length : tie.Need-same-length
 same-length c = omega arith
@@ -64,43 +57,7 @@ same-length-2 : tie.Need-same-length-2
 same-length-2 c = omega arith
 
 returns-7 : tie.Need-returns-7
-returns-7 c = c .before .before .before .before .call-8 .ensures
-
-call-16-requires : tie.Need-call-16-requires
-call-16-requires c κs = record { shape = shape (c .before .before .before .before); count = refl; limit = c .before .before .if8 .taken }
-
-same-length-3 : tie.Need-same-length-3
-same-length-3 c = omega arith
-
-same-length-4 : tie.Need-same-length-4
-same-length-4 c = omega arith
-
-returns-8 : tie.Need-returns-8
-returns-8 c = c .before .before .before .before .call-16 .ensures
-
-call-32-requires : tie.Need-call-32-requires
-call-32-requires c κs = record { shape = shape (c .before .before .before .before .before); count = refl; limit = c .before .before .if9 .taken }
-
-same-length-5 : tie.Need-same-length-5
-same-length-5 c = omega arith
-
-same-length-6 : tie.Need-same-length-6
-same-length-6 c = omega arith
-
-returns-9 : tie.Need-returns-9
-returns-9 c = c .before .before .before .before .call-32 .ensures
-
-call-64-requires : tie.Need-call-64-requires
-call-64-requires c κs = let s = shape (c .before .before .before .before .before) in record { shape = s; count = refl; limit = s .few }
-
-same-length-7 : tie.Need-same-length-7
-same-length-7 c = omega arith
-
-same-length-8 : tie.Need-same-length-8
-same-length-8 c = omega arith
-
-returns-10 : tie.Need-returns-10
-returns-10 c = c .before .before .before .before .call-64 .ensures
+returns-7 c = c .before .before .before .before .relay .ensures
 
 pub pasagumdil-verdict-spec : {M : Type 1} → statement M
 pasagumdil-verdict-spec =
@@ -113,19 +70,7 @@ pasagumdil-verdict-spec =
     returns-5
     mul-if6
     returns-6
-    call-8-requires
+    relay-requires
     same-length
     same-length-2
-    returns-7
-    call-16-requires
-    same-length-3
-    same-length-4
-    returns-8
-    call-32-requires
-    same-length-5
-    same-length-6
-    returns-9
-    call-64-requires
-    same-length-7
-    same-length-8
-    returns-10)
+    returns-7)

@@ -22,9 +22,8 @@ use Rattle.lists.proofs.ReadLaws.{numbers-length}
 use Rattle.verdict.specs.Refusals.{Fault, Refusal, Faultless}
 use Rattle.verdict.specs.Refusals.Fault.{empty, crowded, uneven, short, stray, looped, absent, free, dear, heavy}
 use Rattle.verdict.proofs.RefusalLaws.{fault-range}
-use Rattle.entry.specs.Faults.{EntryFault, EntryRefusal, EntryFaultless}
-use Rattle.entry.specs.Faults.EntryFault.{brokenRows, brokenCosts, narrow, ofNumbers}
-use Rattle.entry.specs.Inside.{Shaped}
+use Rattle.relay.specs.Faults.{EntryFault, EntryRefusal, EntryFaultless, Shaped}
+use Rattle.relay.specs.Faults.EntryFault.{brokenRows, brokenCosts, narrow, ofNumbers}
 
 pub count : (bytes : List ℕ) → length (numbersOf bytes) ≡ length bytes / 8
 count bytes = numbers-length (length bytes / 8) bytes

@@ -12,7 +12,7 @@ use Rattle.verdict.specs.declared.Decision.{Decision}
 use Rattle.verdict.specs.declared.Answer.the-variants.{Decided}
 use Rattle.verdict.specs.Called.{Called}
 use Rattle.reply.specs.Replied.{frameOf}
-use Rattle.entry.specs.Faults.{EntryRefusal, EntryFaultless}
+use Rattle.relay.specs.Faults.{EntryRefusal, EntryFaultless}
 
 pub data Entered (rows costs : List ℕ) (τ allowance : ℕ) (work answer : List ℕ) : ℕ → List ℕ → List ℕ → Type 0 where
   -- "A refusal returns its number; all lent lists stay unwritten."

@@ -35,12 +35,12 @@ use Rattle.verdict.proofs.RefusalLaws.{due-refused}
 use Rattle.verdict.proofs.DecideLaws.{through-none, decide-waits}
 use Rattle.verdict.proofs.CallLaws.{call-unique}
 use Rattle.reply.specs.Replied.{frameOf}
-use Rattle.entry.specs.Faults.{EntryFault}
-use Rattle.entry.specs.Entered.{Entered}
-use Rattle.entry.specs.Entered.Entered.{refuses, answers}
-use Rattle.entry.specs.Inside.{Shaped, Lent, Started, Opened}
-use Rattle.entry.specs.Inside.Started.{over, ahead}
-use Rattle.entry.proofs.FaultLaws.{count, Passed, refusal-unique, refuse-byte, refuse-number, shaped-faultless}
+use Rattle.relay.specs.Faults.{EntryFault, Shaped}
+use Rattle.relay.specs.Entered.{Entered}
+use Rattle.relay.specs.Entered.Entered.{refuses, answers}
+use Rattle.relay.specs.Inside.{Lent, Started, Opened}
+use Rattle.relay.specs.Inside.Started.{over, ahead}
+use Rattle.relay.proofs.FaultLaws.{count, Passed, refusal-unique, refuse-byte, refuse-number, shaped-faultless}
 
 -- "wait", with no round
 abbrev pub still : Decision

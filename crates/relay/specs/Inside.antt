@@ -1,8 +1,7 @@
 -- What the inner functions of this crate ask of one another. No statement of a public function leans on it.
 -- rows, costs, work and answer are lists of bytes, rowList, costList and flows lists of numbers, τ is the timed-out job; n is the number of rows.
 --
---   Shaped rows costs work answer   the lists of bytes are as refusals 1 to 3 leave them
---   Sized .. n k                    the same, where n is at most k
+--   Sized .. n k                    lists of bytes of n rows, n at most k
 --   Lent ..                         the same, with lists of numbers for n rows and n costs
 --   Started .. k x work′ answer′    how a call starts: it is answered by k, and x is 0, or a ring passes through T, x is X, and the numbers are read
 --   Opened .. work′ answer′         a decision on lists of numbers, and its bytes written
@@ -21,15 +20,8 @@ use Rattle.verdict.specs.declared.Answer.the-variants.{Decided}
 use Rattle.verdict.specs.Refusals.{Faultless}
 use Rattle.verdict.specs.Called.{Called}
 use Rattle.reply.specs.Replied.{frameOf}
-use Rattle.entry.specs.Entered.{Entered}
-
-pub record Shaped (rows costs : List ℕ) (work answer : ℕ) : Type 0 where
-  pub full : length rows % 8 ≡ 0
-  pub some : 0 < length rows / 8
-  pub few : length rows / 8 ≤ 64
-  pub priced : length costs ≡ length rows
-  pub room : length rows / 8 * (length rows / 8) ≤ work / 8
-  pub places : 22 ≤ answer
+use Rattle.relay.specs.Faults.{Shaped}
+use Rattle.relay.specs.Entered.{Entered}
 
 pub record Sized (rows costs : List ℕ) (work answer n k : ℕ) : Type 0 where
   pub shape : Shaped rows costs work answer

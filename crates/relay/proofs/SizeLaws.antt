@@ -17,11 +17,11 @@ use native.Mathlib.Omega.{arith}
 use lib.ListN.{length, take, replicate, length-append, length-replicate}
 use lib.Seq.{take-at}
 use Rattle.verdict.specs.Called.{Ringed}
-use Rattle.entry.specs.Entered.{Entered}
-use Rattle.entry.specs.Inside.{Sized, Lent, Started, Opened}
-use Rattle.entry.specs.Inside.Started.{over, ahead}
-use Rattle.entry.proofs.FaultLaws.{count}
-use Rattle.entry.proofs.EntryLaws.{started-same, started-ringed, entered-opened}
+use Rattle.relay.specs.Entered.{Entered}
+use Rattle.relay.specs.Inside.{Sized, Lent, Started, Opened}
+use Rattle.relay.specs.Inside.Started.{over, ahead}
+use Rattle.relay.proofs.FaultLaws.{count}
+use Rattle.relay.proofs.EnteredLaws.{started-same, started-ringed, entered-opened}
 
 pub front : (N m : ℕ) → m ≤ N → take {A = ℕ} m (replicate N 0) ≡ replicate m 0
 front N zero l = refl

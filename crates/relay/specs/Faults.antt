@@ -4,9 +4,11 @@
 --   EntryFault rows costs τ work answer k      the input has the fault of refusal k
 --   EntryRefusal rows costs τ work answer k    refusal k is due: "Given exactly when no smaller-placed refusal applies and" the input has its fault
 --   EntryFaultless rows costs τ work answer    no refusal is due
+--   Shaped rows costs work answer              the lists of bytes are as refusals 1 to 3 leave them: 1 to 64 rows of 8 bytes, as many costs, n × n places of work, 22 of the answer
+use mathlib.Core.Path.{_≡_}
 use mathlib.Core.Logic.{_≢_}
 use mathlib.Core.List.{List}
-use Prim.Native.Nat.{ℕ, _/_, _%_, _<_}
+use Prim.Native.Nat.{ℕ, _*_, _/_, _%_, _<_, _≤_}
 use lib.ListN.{length}
 use Rattle.lists.specs.Numbers.{numbersOf}
 use Rattle.verdict.specs.Refusals.{Fault}
@@ -27,3 +29,11 @@ pub record EntryRefusal (rows costs : List ℕ) (τ work answer k : ℕ) : Type 
 
 abbrev pub EntryFaultless : List ℕ → List ℕ → ℕ → ℕ → ℕ → Type 0
 EntryFaultless rows costs τ work answer = (k : ℕ) → EntryFault rows costs τ work answer k → ⊥
+
+pub record Shaped (rows costs : List ℕ) (work answer : ℕ) : Type 0 where
+  pub full : length rows % 8 ≡ 0
+  pub some : 0 < length rows / 8
+  pub few : length rows / 8 ≤ 64
+  pub priced : length costs ≡ length rows
+  pub room : length rows / 8 * (length rows / 8) ≤ work / 8
+  pub places : 22 ≤ answer

@@ -1,8 +1,8 @@
--- `entry::give`: the answer frame of the decision, and its bytes.
+-- `relay::give`: the answer frame of the decision, and its bytes.
 use borrow.Author.Needs.{needs}
-use Rattle.entry.proofs.EntryLaws.{given}
-use Rattle.entry.proofs.give.Statement.{statement}
-use Rattle.entry.proofs.give.Tie as tie
+use Rattle.relay.proofs.EnteredLaws.{given}
+use Rattle.relay.proofs.give.Statement.{statement}
+use Rattle.relay.proofs.give.Tie as tie
 
 answer-frame-requires : tie.Need-answer-frame-requires
 answer-frame-requires c κs = search needs

@@ -1,3 +1,3 @@
 pub mod FaultLaws
-pub mod EntryLaws
+pub mod EnteredLaws
 pub mod SizeLaws

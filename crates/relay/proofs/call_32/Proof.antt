@@ -1,11 +1,11 @@
--- `entry::call_32`: lists of zeros for 32 jobs, and their first places lent.
+-- `relay::call_32`: lists of zeros for 32 jobs, and their first places lent.
 use borrow.Author.Needs.{needs}
 use native.Mathlib.Omega.{arith}
 use lib.ListN.{drop, replicate}
-use Rattle.entry.proofs.EntryLaws.{started-over}
-use Rattle.entry.proofs.SizeLaws.{front, front-length, square-under, lent, prefix, prefix-under, prefix-length, read-length, call-ready, call-opened}
-use Rattle.entry.proofs.call_32.Statement.{statement}
-use Rattle.entry.proofs.call_32.Tie as tie
+use Rattle.relay.proofs.EnteredLaws.{started-over}
+use Rattle.relay.proofs.SizeLaws.{front, front-length, square-under, lent, prefix, prefix-under, prefix-length, read-length, call-ready, call-opened}
+use Rattle.relay.proofs.call_32.Statement.{statement}
+use Rattle.relay.proofs.call_32.Tie as tie
 
 array-borrow-prefix-row-list : tie.Need-array-borrow-prefix-row-list
 array-borrow-prefix-row-list c = search needs

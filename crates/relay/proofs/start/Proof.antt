@@ -1,12 +1,12 @@
--- `entry::start`: the lists are read, and a refusal or a wait answers the call; otherwise there is a ring.
+-- `relay::start`: the lists are read, and a refusal or a wait answers the call; otherwise there is a ring.
 use borrow.Author.Needs.{needs}
 use borrow.Author.Tests.{not-true, not-false}
 use native.Mathlib.Omega.{arith}
 use Rattle.verdict.proofs.RefusalLaws.{due-none, faultless-jobs, faultless-job}
-use Rattle.entry.proofs.EntryLaws.{read-rows, read-costs, read-count, lent-few, lent-room, started-refused, started-waits, started-ahead}
-use Rattle.entry.proofs.SizeLaws.{square-under}
-use Rattle.entry.proofs.start.Statement.{statement}
-use Rattle.entry.proofs.start.Tie as tie
+use Rattle.relay.proofs.EnteredLaws.{read-rows, read-costs, read-count, lent-few, lent-room, started-refused, started-waits, started-ahead}
+use Rattle.relay.proofs.SizeLaws.{square-under}
+use Rattle.relay.proofs.start.Statement.{statement}
+use Rattle.relay.proofs.start.Tie as tie
 
 read-numbers-requires : tie.Need-read-numbers-requires
 read-numbers-requires c κs = let s = c .before .before .before .before .before .before .before in omega (arith, s .pre .rowPlaces)
