@@ -5,6 +5,7 @@
 --   Shown r n x S                      the masks show the steps with room, and no step of another job
 --   Changed a b on S S′                the step from a to b is allowed if `on` passes, all others as before
 --   with-step, without-step            so it is after a step is marked, or unmarked
+--   shown-there                        the masks have a step with room
 --   shown-step                         after one step's push the masks show the steps with room again
 --   shown-same                         so it is with rooms that agree
 use mathlib.Core.Path.{_≡_, refl, sym, ap, _∙_, subst}
@@ -117,6 +118,9 @@ module _ (r : Room) (n x : ℕ) (S : List ℕ) (W : Shown r n x S) (few : n ≤ 
 
   pub shown-sides : (a + b) % 2 ≡ 1
   shown-sides = step-parts S a b on .0
+
+  pub shown-there : Has (at S a) (b / 2)
+  shown-there = step-parts S a b on .1
 
   ne : a ≢ b
   ne e = omega (arith, shown-sides)

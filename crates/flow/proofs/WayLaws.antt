@@ -34,7 +34,7 @@ use Rattle.push.proofs.AdvanceLaws.{shifted-size}
 use Rattle.push.specs.Way.{On, Way, Measurable, Amount, Pushed, Pushable, PushedAlong}
 use Rattle.push.specs.Way.Pushed.{none, more}
 use Rattle.flow.proofs.HeldLaws.{Framed, Held, held-read, held-readable, held-step, held-same}
-use Rattle.flow.proofs.ShownLaws.{Shown, shown-step, shown-same}
+use Rattle.flow.proofs.ShownLaws.{Shown, shown-there, shown-step, shown-same}
 
 -- ---- the end of a way
 
@@ -106,6 +106,7 @@ module _ (arc : ℕ → ℕ → Bool) (job : ℕ → ℕ) (wide : ℕ) (costs : 
       readable = held-readable arc job wide costs K (push r d b q) F₁ G₁ (C .held) a b (A .inside) (A .walk .0);
       allowed = omega (arith, read, e, A .allows .0);
       masks = C .shown .size;
+      there = shown-there (push r d b q) (length costs) x S₁ (C .shown) (K .few) a b d (A .inside) (A .walk .0) pos (omega (arith, e, A .allows .0));
       priced = K .small (a / 2) (omega (arith, A .inside));
       bound = K .bound;
     }

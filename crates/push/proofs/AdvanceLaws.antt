@@ -1,7 +1,7 @@
 -- One step of a push in the lists: that it can be made, and that it leaves one result.
 -- Assumes nothing.
 --
---   advance-shiftable, advance-markable   what `shift`, `unmark` and `mark` ask for
+--   advance-shiftable, advance-unmarkable, advance-markable-back   what `shift`, `unmark` and `mark` ask for
 --   advanced                              what they leave together
 --   shifted-size                          the work list keeps its length
 --   advanced-unique                       two results of one step are equal
@@ -14,7 +14,7 @@ use native.Mathlib.Omega.{arith}
 use lib.ListN.{length, length-set}
 use Rattle.search.specs.Masks.{at}
 use Rattle.push.specs.Reading.{reads}
-use Rattle.push.specs.Advance.{Shiftable, Shifted, Markable, withStep, withoutStep, Advanceable, Advanced}
+use Rattle.push.specs.Advance.{Shiftable, Shifted, Markable, Unmarkable, withStep, withoutStep, Advanceable, Advanced}
 use Rattle.push.specs.Advance.Shifted.{drops, rises, along, against}
 use Rattle.push.proofs.ReadLaws.{read-drops, read-rises, read-along, read-against}
 
@@ -35,11 +35,14 @@ module _ (costs : List ℕ) (wide : ℕ) (F G S : List ℕ) (a b d : ℕ) (A : A
   pub advance-markable : Markable a b S
   advance-markable = record { from = omega (arith, A .readable .from, A .readable .few); to = omega (arith, A .readable .to, A .readable .few); masks = A .masks }
 
-  -- the masks after the branch: without the step where its room is used up
-  abbrev pub Cleared : ℕ → List ℕ → Type 0
-  Cleared x S₁ = ((x ≡ d) × (S₁ ≡ withoutStep S a b)) ⊎ ((x ≢ d) × (S₁ ≡ S))
+  pub advance-unmarkable : Unmarkable a b S
+  advance-unmarkable = record { markable = advance-markable; there = A .there }
 
-  module _ (x : ℕ) (S₁ : List ℕ) (K : Cleared x S₁) where
+  -- the masks after the branch: without the step where its room is used up
+  abbrev pub Branched : ℕ → List ℕ → Type 0
+  Branched x S₁ = ((x ≡ d) × (S₁ ≡ withoutStep S a b)) ⊎ ((x ≢ d) × (S₁ ≡ S))
+
+  module _ (x : ℕ) (S₁ : List ℕ) (K : Branched x S₁) where
     pub advance-markable-back : Markable b a S₁
     unfolding withoutStep
     advance-markable-back = record { from = omega (arith, A .readable .to, A .readable .few); to = omega (arith, A .readable .from, A .readable .few); masks = go K }

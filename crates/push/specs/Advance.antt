@@ -2,9 +2,9 @@
 --
 --   Shiftable n F G a b d                         the flow on the step's arc can take d more, or d less where the step goes back
 --   Shifted n a b d F G F′ G′                     it has: drops and rises are the arc of a job, against and along it; along and against are a wait
---   Markable a b S                                two nodes, and 128 masks
+--   Markable a b S, Unmarkable a b S              two nodes, and 128 masks; masks that have the step from a to b
 --   withStep S a b, withoutStep S a b             the masks with and without the step from a to b
---   Advanceable costs wide F G S a b d            the step has room for d
+--   Advanceable costs wide F G S a b d            the step has room for d, and the masks have it
 --   Advanced costs wide a b d F G S F′ G′ S′      d is pushed along it: the step has room no more where d was all of it, and the step back has room
 use mathlib.Core.Path.{_≡_}
 use mathlib.Core.Logic.{_≢_}
@@ -12,6 +12,7 @@ use mathlib.Core.List.{List}
 use Prim.Native.Nat.{ℕ, _+_, _-_, _*_, _/_, _%_, _^_, _<_, _≤_}
 use lib.Bits.{bitOr, bitXor}
 use lib.ListN.{length, set}
+use Rattle.bits.specs.Mask.{Has}
 use Rattle.search.specs.Masks.{at}
 use Rattle.push.specs.Reading.{reads, Readable}
 
@@ -37,10 +38,14 @@ pub record Markable (a b : ℕ) (S : List ℕ) : Type 0 where
   pub to : b < 128
   pub masks : length S ≡ 128
 
+pub record Unmarkable (a b : ℕ) (S : List ℕ) : Type 0 where
+  pub markable : Markable a b S
+  pub there : Has (at S a) (b / 2)
+
 unfoldable pub withStep : List ℕ → ℕ → ℕ → List ℕ
 withStep S a b = set S a (bitOr (at S a) (2 ^ (b / 2)))
 
--- of masks that have it
+-- of masks that have it (`Unmarkable`)
 unfoldable pub withoutStep : List ℕ → ℕ → ℕ → List ℕ
 withoutStep S a b = set S a (bitXor (at S a) (2 ^ (b / 2)))
 
@@ -48,6 +53,7 @@ pub record Advanceable (costs : List ℕ) (wide : ℕ) (F G S : List ℕ) (a b d
   pub readable : Readable costs wide F G a b
   pub allowed : d ≤ reads costs wide F G a b
   pub masks : length S ≡ 128
+  pub there : Has (at S a) (b / 2)
   -- the capacities are numbers of 64 bits
   pub priced : at costs (a / 2) < 2 ^ 64
   pub bound : wide < 2 ^ 64

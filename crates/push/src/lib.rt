@@ -1,11 +1,10 @@
-ghost use mathlib.Core.Path.{_≡_};
-ghost use Rattle.push.specs.Reading.{reads, Readable};
-ghost use Rattle.push.specs.Advance.{Shiftable, Shifted, Markable, withStep, withoutStep, Advanceable, Advanced};
-ghost use Rattle.push.specs.Way.{Measurable, Amount, Pushable, PushedAlong};
-
 // One round's amount and its push, up the parents that the search has left.
 // The flow on the waits is in the work list, the flow through each job in `thru`, and `steps` has the masks of the steps with room.
 // Both public functions say what they give in terms of these lists; `flow` turns that into rooms and rounds.
+ghost use mathlib.Core.Path.{_≡_};
+ghost use Rattle.push.specs.Reading.{reads, Readable};
+ghost use Rattle.push.specs.Advance.{Shiftable, Shifted, Markable, Unmarkable, withStep, withoutStep, Advanceable, Advanced};
+ghost use Rattle.push.specs.Way.{Measurable, Amount, Pushable, PushedAlong};
 
 // The room of the step from node a to node b.
 fn room(costs: &[u64], wide: u64, work: &[u64], thru: &[u64; 64], a: usize, b: usize) -> u64
@@ -63,7 +62,7 @@ fn mark(steps: &mut [u64; 128], a: usize, b: usize)
 
 // The step from a to b, which had room, has none.
 fn unmark(steps: &mut [u64; 128], a: usize, b: usize)
-    requires { ⌜ Markable a b (now steps) ⌝ }
+    requires { ⌜ Unmarkable a b (now steps) ⌝ }
     ensures { λ _. ⌜ now (steps .exit) ≡ withoutStep (now (steps .entry)) a b ⌝ }
 {
     steps[a] = steps[a] ^ (1u64 << (b / 2));

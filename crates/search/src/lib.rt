@@ -1,8 +1,7 @@
-ghost use Rattle.search.specs.Sought.{Ready, Sought};
-
 // The search of a round: the path that it takes, or that no path is left.
 // Steps between nodes are given as 128 masks, one a node; a mask names jobs, and a step leads from an in-node to an out-node or the other way,
 // so that the job says which node is meant. The queue and the parents are lent by the caller, so that they are made once for all rounds.
+ghost use Rattle.search.specs.Sought.{Ready, Sought};
 
 const FULL: u64 = 18446744073709551615;
 

@@ -2,7 +2,7 @@
 use mathlib.Core.Path.{_≡_, _∙_}
 use mathlib.Core.Logic.{_⊎_, inl, inr, _≢_, ⊎-elim}
 use Rattle.push.specs.Advance.{withoutStep}
-use Rattle.push.proofs.AdvanceLaws.{advance-shiftable, advance-markable, advance-markable-back, advanced}
+use Rattle.push.proofs.AdvanceLaws.{advance-shiftable, advance-unmarkable, advance-markable-back, advanced}
 use borrow.Author.Needs.{needs}
 use Rattle.push.proofs.advance.Statement.{statement}
 use Rattle.push.proofs.advance.Tie as tie
@@ -20,7 +20,7 @@ shift-requires : tie.Need-shift-requires
 shift-requires c κs = advance-shiftable _ _ _ _ _ _ _ _ (c .before .before .before .before .before .before .before .pre)
 
 unmark-requires : tie.Need-unmark-requires
-unmark-requires c κs = advance-markable _ _ _ _ _ _ _ _ (c .before .before .before .before .before .before .before .before .before .before .before .before .pre)
+unmark-requires c κs = advance-unmarkable _ _ _ _ _ _ _ _ (c .before .before .before .before .before .before .before .before .before .before .before .before .pre)
 
 -- the masks after the branch
 cleared : (c : tie.Joined1) → let s = c .before .before .before .before .before .before .before .before .before .before .before in let x = c .before .before .before .before .before .before .room .result in
