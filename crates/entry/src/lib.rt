@@ -38,7 +38,16 @@ pub extern "C" fn pasagumdil_verdict(
         return 3;
     }
     let job = t as usize;
-    relay::relay(rows, costs, job, allowance, work, answer)
+    if n <= 8 {
+        return relay::call_8(rows, costs, n, job, allowance, work, answer);
+    }
+    if n <= 16 {
+        return relay::call_16(rows, costs, n, job, allowance, work, answer);
+    }
+    if n <= 32 {
+        return relay::call_32(rows, costs, n, job, allowance, work, answer);
+    }
+    relay::call_64(rows, costs, n, job, allowance, work, answer)
 }
 
 // For C: the line that answers a text. Returns its length, or 0 where the lent list has fewer than 45 places.

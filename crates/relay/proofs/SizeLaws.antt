@@ -17,8 +17,9 @@ use native.Mathlib.Omega.{arith}
 use lib.ListN.{length, take, replicate, length-append, length-replicate}
 use lib.Seq.{take-at}
 use Rattle.verdict.specs.Called.{Ringed}
+use Rattle.relay.specs.Faults.{Sized}
 use Rattle.relay.specs.Entered.{Entered}
-use Rattle.relay.specs.Inside.{Sized, Lent, Started, Opened}
+use Rattle.relay.specs.Inside.{Lent, Started, Opened}
 use Rattle.relay.specs.Inside.Started.{over, ahead}
 use Rattle.relay.proofs.FaultLaws.{count}
 use Rattle.relay.proofs.EnteredLaws.{started-same, started-ringed, entered-opened}

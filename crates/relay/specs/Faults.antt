@@ -5,6 +5,7 @@
 --   EntryRefusal rows costs τ work answer k    refusal k is due: "Given exactly when no smaller-placed refusal applies and" the input has its fault
 --   EntryFaultless rows costs τ work answer    no refusal is due
 --   Shaped rows costs work answer              the lists of bytes are as refusals 1 to 3 leave them: 1 to 64 rows of 8 bytes, as many costs, n × n places of work, 22 of the answer
+--   Sized rows costs work answer n k           the same, where n is the number of rows and at most k
 use mathlib.Core.Path.{_≡_}
 use mathlib.Core.Logic.{_≢_}
 use mathlib.Core.List.{List}
@@ -37,3 +38,8 @@ pub record Shaped (rows costs : List ℕ) (work answer : ℕ) : Type 0 where
   pub priced : length costs ≡ length rows
   pub room : length rows / 8 * (length rows / 8) ≤ work / 8
   pub places : 22 ≤ answer
+
+pub record Sized (rows costs : List ℕ) (work answer n k : ℕ) : Type 0 where
+  pub shape : Shaped rows costs work answer
+  pub count : n ≡ length rows / 8
+  pub limit : n ≤ k

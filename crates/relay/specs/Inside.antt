@@ -1,8 +1,7 @@
 -- What the inner functions of this crate ask of one another. No statement of a public function leans on it.
 -- rows, costs, work and answer are lists of bytes, rowList, costList and flows lists of numbers, τ is the timed-out job; n is the number of rows.
 --
---   Sized .. n k                    lists of bytes of n rows, n at most k
---   Lent ..                         the same, with lists of numbers for n rows and n costs
+--   Lent ..                         lists of bytes as refusals 1 to 3 leave them, with lists of numbers for n rows and n costs
 --   Started .. k x work′ answer′    how a call starts: it is answered by k, and x is 0, or a ring passes through T, x is X, and the numbers are read
 --   Opened .. work′ answer′         a decision on lists of numbers, and its bytes written
 use mathlib.Core.Path.{_≡_}
@@ -22,11 +21,6 @@ use Rattle.verdict.specs.Called.{Called}
 use Rattle.reply.specs.Replied.{frameOf}
 use Rattle.relay.specs.Faults.{Shaped}
 use Rattle.relay.specs.Entered.{Entered}
-
-pub record Sized (rows costs : List ℕ) (work answer n k : ℕ) : Type 0 where
-  pub shape : Shaped rows costs work answer
-  pub count : n ≡ length rows / 8
-  pub limit : n ≤ k
 
 pub record Lent (rows costs rowList costList work answer : List ℕ) : Type 0 where
   pub shape : Shaped rows costs (length work) (length answer)

@@ -1,7 +1,7 @@
 // The verdict call on lists of bytes whose shape is checked: the numbers are read, the call is made, and its answer is written.
 //
-// `relay` leaves the answer frame at the front of the answer bytes and the flows at the front of the work bytes, or returns a refusal of 4 to 8 and writes nothing.
-// The lists of numbers are its own, for 8, 16, 32 or 64 jobs, and those of the flows are made only where there is a ring.
+// `call_8`, `call_16`, `call_32` and `call_64` leave the answer frame at the front of the answer bytes and the flows at the front of the work bytes,
+// or return a refusal of 4 to 8 and write nothing. Each has lists of numbers for so many jobs; those of the flows are made only where there is a ring.
 use verdict::Decision;
 use verdict::Outcome;
 ghost use mathlib.Core.Path.{_≡_};
@@ -11,9 +11,9 @@ ghost use lib.ListN.{length, drop};
 ghost use Rattle.codec.specs.Frame.{answerBytes};
 ghost use Rattle.verdict.specs.Called.{Ringed};
 ghost use Rattle.reply.specs.Replied.{frameOf};
-ghost use Rattle.relay.specs.Faults.{Shaped};
+ghost use Rattle.relay.specs.Faults.{Sized};
 ghost use Rattle.relay.specs.Entered.{Entered};
-ghost use Rattle.relay.specs.Inside.{Sized, Lent, Started, Opened};
+ghost use Rattle.relay.specs.Inside.{Lent, Started, Opened};
 
 // Writes the answer frame of a decision.
 fn give(d: Decision, answer: &mut [u8])
@@ -86,7 +86,7 @@ fn open(
 }
 
 // The call with at most 8 jobs.
-fn call_8(
+pub fn call_8(
     rows: &[u8],
     costs: &[u8],
     n: usize,
@@ -127,7 +127,7 @@ fn call_8(
 }
 
 // The call with at most 16 jobs.
-fn call_16(
+pub fn call_16(
     rows: &[u8],
     costs: &[u8],
     n: usize,
@@ -168,7 +168,7 @@ fn call_16(
 }
 
 // The call with at most 32 jobs.
-fn call_32(
+pub fn call_32(
     rows: &[u8],
     costs: &[u8],
     n: usize,
@@ -209,7 +209,7 @@ fn call_32(
 }
 
 // The call with at most 64 jobs.
-fn call_64(
+pub fn call_64(
     rows: &[u8],
     costs: &[u8],
     n: usize,
@@ -247,29 +247,4 @@ fn call_64(
         answer,
     );
     0
-}
-
-// The call, with lists of the size that the rows ask for.
-pub fn relay(
-    rows: &[u8],
-    costs: &[u8],
-    t: usize,
-    allowance: u32,
-    work: &mut [u8],
-    answer: &mut [u8],
-) -> u8
-    requires { ⌜ Shaped (now rows) (now costs) (length (now work)) (length (now answer)) ⌝ }
-    ensures { λ r. ⌜ Entered (now (rows .entry)) (now (costs .entry)) t allowance (now (work .entry)) (now (answer .entry)) r (now (work .exit)) (now (answer .exit)) ⌝ }
-{
-    let n = rows.len() / 8;
-    if n <= 8 {
-        return call_8(rows, costs, n, t, allowance, work, answer);
-    }
-    if n <= 16 {
-        return call_16(rows, costs, n, t, allowance, work, answer);
-    }
-    if n <= 32 {
-        return call_32(rows, costs, n, t, allowance, work, answer);
-    }
-    call_64(rows, costs, n, t, allowance, work, answer)
 }

@@ -1,5 +1,6 @@
--- `entry::pasagumdil_verdict`: the byte checks, each with its refusal, then the call behind them.
+-- `entry::pasagumdil_verdict`: the byte checks, each with its refusal, then the call with lists of the size that n asks for.
 use native.Mathlib.Omega.{arith}
+use mathlib.Core.Path.{refl}
 use lib.ListN.{length}
 use Rattle.relay.specs.Faults.{Shaped}
 use Rattle.relay.specs.Faults.EntryFault.{brokenRows, narrow}
@@ -47,8 +48,8 @@ shape : (c : tie.Else6)
     → Shaped (c .before .before .before .before .before .before .before .before .before .before .args .rows .now) (c .before .before .before .before .before .before .before .before .before .before .args .costs .now) (length (c .before .before .before .before .before .before .before .before .before .before .args .work .now)) (length (c .before .before .before .before .before .before .before .before .before .before .args .answer .now))
 shape c = shaped _ _ _ _ (passed-3 _ _ (passed-2 _ _ (c .before .before .before .before .before .if1 .left) (c .before .before .before .before .if2 .left) (c .before .before .before .if3 .left)) (c .before .before .if4 .left)) (c .before .if5 .left) (c .if6 .left)
 
-relay-requires : tie.Need-relay-requires
-relay-requires c κs = shape (c .before .before)
+call-8-requires : tie.Need-call-8-requires
+call-8-requires c κs = record { shape = shape (c .before .before .before); count = refl; limit = c .before .before .if7 .taken }
 
 same-length : tie.Need-same-length
 same-length c = omega arith
@@ -57,7 +58,43 @@ same-length-2 : tie.Need-same-length-2
 same-length-2 c = omega arith
 
 returns-7 : tie.Need-returns-7
-returns-7 c = c .before .before .before .before .relay .ensures
+returns-7 c = c .before .before .before .before .call-8 .ensures
+
+call-16-requires : tie.Need-call-16-requires
+call-16-requires c κs = record { shape = shape (c .before .before .before .before); count = refl; limit = c .before .before .if8 .taken }
+
+same-length-3 : tie.Need-same-length-3
+same-length-3 c = omega arith
+
+same-length-4 : tie.Need-same-length-4
+same-length-4 c = omega arith
+
+returns-8 : tie.Need-returns-8
+returns-8 c = c .before .before .before .before .call-16 .ensures
+
+call-32-requires : tie.Need-call-32-requires
+call-32-requires c κs = record { shape = shape (c .before .before .before .before .before); count = refl; limit = c .before .before .if9 .taken }
+
+same-length-5 : tie.Need-same-length-5
+same-length-5 c = omega arith
+
+same-length-6 : tie.Need-same-length-6
+same-length-6 c = omega arith
+
+returns-9 : tie.Need-returns-9
+returns-9 c = c .before .before .before .before .call-32 .ensures
+
+call-64-requires : tie.Need-call-64-requires
+call-64-requires c κs = let s = shape (c .before .before .before .before .before) in record { shape = s; count = refl; limit = s .few }
+
+same-length-7 : tie.Need-same-length-7
+same-length-7 c = omega arith
+
+same-length-8 : tie.Need-same-length-8
+same-length-8 c = omega arith
+
+returns-10 : tie.Need-returns-10
+returns-10 c = c .before .before .before .before .call-64 .ensures
 
 pub pasagumdil-verdict-spec : {M : Type 1} → statement M
 pasagumdil-verdict-spec =
@@ -70,7 +107,19 @@ pasagumdil-verdict-spec =
     returns-5
     mul-if6
     returns-6
-    relay-requires
+    call-8-requires
     same-length
     same-length-2
-    returns-7)
+    returns-7
+    call-16-requires
+    same-length-3
+    same-length-4
+    returns-8
+    call-32-requires
+    same-length-5
+    same-length-6
+    returns-9
+    call-64-requires
+    same-length-7
+    same-length-8
+    returns-10)
