@@ -3,7 +3,6 @@
 --
 --   flowed-unique     two results of `make_rounds` on the same input are equal: the count, whether a path is left, both masks, and the whole work list
 --   flowed-bound      at most 2 n (m + n) rounds are made, n and m being the numbers of jobs and of waits
---   inflow-unique     two results of `inflow` are equal
 use mathlib.Core.Path.{_≡_, refl, sym, ap, _∙_, subst}
 use mathlib.Core.Logic.{_≢_}
 use mathlib.Core.Bool.{Bool}
@@ -28,7 +27,6 @@ use Rattle.network.proofs.Tally.{capacity-counted}
 use Rattle.flow.specs.Accepted.{costAt, Accepted}
 use Rattle.flow.specs.Flowed.{Side, Ends, Flowed}
 use Rattle.flow.specs.Flowed.Ends.{settled, unfinished}
-use Rattle.flow.specs.Inflow.{inflowOf}
 
 -- ---- one result
 
@@ -105,6 +103,3 @@ pub flowed-bound : (rows costs : List ℕ) (τ x a : ℕ) (before after : List �
 flowed-bound rows costs τ x a before after k left ins outs K A =
     let z = capacity-counted (waits rows) (has x) (length rows) τ (costAt costs) (K .job) in
     omega (arith, z .1 .most k (A .room) (A .made), z .2)
-
-pub inflow-unique : (work : List ℕ) (n u r q : ℕ) → r ≡ inflowOf work n u → q ≡ inflowOf work n u → r ≡ q
-inflow-unique work n u r q e f = e ∙ sym f

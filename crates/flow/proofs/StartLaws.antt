@@ -1,9 +1,6 @@
--- The loops of `clear` and `begin`: the work list and the masks before the first round.
+-- The loop of `begin`: the masks before the first round.
 -- Assumes nothing.
 --
---   Clearing n before i after            the places below i are 0, all others as before
---   clear-start, clear-turn, clear-end
---   clear-unique                         two results of `clear` are equal
 --   Beginning rows τ x rest steps        the masks of the jobs that are no more in rest are those of the start, all others 0
 --   begin-start, begin-turn, begin-end
 use mathlib.Core.Path.{_≡_, refl, sym, ap, _∙_, subst}
@@ -11,14 +8,13 @@ use mathlib.Core.Logic.{_⊎_, inl, inr, _≢_}
 use mathlib.Core.Bool.{Bool, not}
 use mathlib.Core.List.{List}
 use Prim.Native.Nat.{ℕ, _+_, _-_, _*_, _/_, _%_, _^_, _<_, _≤_, zero-le}
-use native.Mathlib.Nat.{mul-le-mul}
-use native.Mathlib.Decide.{ℕ-discrete, decLt}
+use native.Mathlib.Decide.{ℕ-discrete}
 use native.Mathlib.Omega.{arith}
 use lib.Bits.{bitAnd}
 use lib.Count.{trailingZeros}
 use lib.Dec.{eqb}
 use lib.ListN.{length, set, length-set}
-use lib.Seq.{getD-set-same, getD-set-other, ext-getD}
+use lib.Seq.{getD-set-same, getD-set-other}
 use Rattle.bits.specs.Mask.{Has, has}
 use Rattle.bits.proofs.Masks.{has-test, test-has}
 use Rattle.bits.proofs.Rest.{Rest, rest-start, rest-end, rest-low, rest-here, rest-below, rest-less, rest-next, rest-gone, rest-cases}
@@ -27,43 +23,7 @@ use Rattle.sums.proofs.TestLaws.{ne-test, test-ne, eqb-on, eqb-off}
 use Rattle.sums.proofs.SumLaws.{gate-on, gate-off}
 use Rattle.network.specs.Rooms.{pick}
 use Rattle.search.specs.Masks.{at}
-use Rattle.flow.specs.Cleared.{Cleared}
 use Rattle.flow.specs.Inside.{startMask, Beginnable, Begun}
-
-pub record Clearing (n : ℕ) (before : List ℕ) (i : ℕ) (after : List ℕ) : Type 0 where
-  pub long : n * n ≤ length before
-  pub grid : n * n ≤ 4096
-  pub size : length after ≡ length before
-  pub done : i ≤ n * n
-  pub none : (j : ℕ) → j < i → at after j ≡ 0
-  pub rest : (j : ℕ) → i ≤ j → at after j ≡ at before j
-
-pub clear-start : (n : ℕ) (before : List ℕ) → n ≤ 64 → n * n ≤ length before → Clearing n before 0 before
-clear-start n before few l = record { long = l; grid = mul-le-mul few few; size = refl; done = zero-le; none = λ j m. absurd (omega arith); rest = λ j m. refl }
-
-pub clear-turn : (n : ℕ) (before : List ℕ) (i : ℕ) (after : List ℕ) → Clearing n before i after → i < n * n → Clearing n before (i + 1) (set after i 0)
-clear-turn n before i after C l = record {
-  long = C .long;
-  grid = C .grid;
-  size = length-set after i 0 ∙ C .size;
-  done = omega arith;
-  none = λ j m. go j m (ℕ-discrete j i);
-  rest = λ j m. getD-set-other after i j 0 0 (λ e. omega arith) ∙ C .rest j (omega arith);
-}
-  where
-    go : (j : ℕ) → j < i + 1 → Dec (j ≡ i) → at (set after i 0) j ≡ 0
-    go j m (yes e) = ap (at (set after i 0)) e ∙ getD-set-same after i 0 0 (omega (arith, C .size, C .long))
-    go j m (no e) = getD-set-other after i j 0 0 e ∙ C .none j (omega arith)
-
-pub clear-end : (n : ℕ) (before : List ℕ) (i : ℕ) (after : List ℕ) → Clearing n before i after → n * n ≤ i → Cleared n before after
-clear-end n before i after C l = record { size = C .size; none = λ j m. C .none j (omega arith); rest = λ j m. C .rest j (omega (arith, C .done)) }
-
-pub clear-unique : (n : ℕ) (before a b : List ℕ) → Cleared n before a → Cleared n before b → a ≡ b
-clear-unique n before a b A B = ext-getD 0 a b (A .size ∙ sym (B .size)) (λ i l. go i (decLt i (n * n)))
-  where
-    go : (i : ℕ) → Dec (i < n * n) → at a i ≡ at b i
-    go i (yes m) = A .none i m ∙ sym (B .none i m)
-    go i (no m) = A .rest i (omega arith) ∙ sym (B .rest i (omega arith))
 
 -- ---- the masks of the start, node by node
 

@@ -1,15 +1,12 @@
-// Rounds against an allowance: the flow layer's written statement is `Flowed`. `clear` zeroes the work list for it, and `inflow` adds up what flows into one job.
+// Rounds against an allowance: the flow layer's written statement is `Flowed`.
 // The network is that of the document, over the rows, the costs, T (here t) and the mask x of X; it is never written down.
 // Kept during the rounds: the flow on the waits in the lent work list, the flow through each job, and for each node the mask of its steps with room.
 ghost use mathlib.Core.Path.{_≡_};
-ghost use Prim.Native.Nat.{_*_, _≤_};
 ghost use lib.ListN.{length};
 ghost use Rattle.bits.specs.Mask.{has};
 ghost use Rattle.network.specs.Arcs.{total};
 ghost use Rattle.flow.specs.Accepted.{costAt, Accepted};
 ghost use Rattle.flow.specs.Flowed.{Flowed};
-ghost use Rattle.flow.specs.Inflow.{inflowOf, Summable};
-ghost use Rattle.flow.specs.Cleared.{Cleared};
 ghost use Rattle.flow.specs.Inside.{Costed, Beginnable, Begun};
 use push::amount;
 use push::push;
@@ -36,19 +33,6 @@ fn total_cost(costs: &[u64], x: u64) -> u64
         rest = rest & (rest - 1);
     }
     sum
-}
-
-// Zeroes the first n × n places.
-pub fn clear(work: &mut [u64], n: usize)
-    requires { ⌜ (n ≤ 64) × (n * n ≤ length (now work)) ⌝ }
-    ensures { λ _. ⌜ Cleared n (now (work .entry)) (now (work .exit)) ⌝ }
-{
-    let end = n * n;
-    let mut i = 0;
-    while i < end {
-        work[i] = 0;
-        i += 1;
-    }
 }
 
 // The masks of the steps with room before the first round.
@@ -118,18 +102,4 @@ pub fn make_rounds(
         ins: side.ins,
         outs: side.outs,
     }
-}
-
-// What flows into job u of n jobs.
-pub fn inflow(work: &[u64], n: usize, u: usize) -> u64
-    requires { ⌜ Summable (now work) n u ⌝ }
-    ensures { λ r. ⌜ r ≡ inflowOf (now (work .entry)) n u ⌝ }
-{
-    let mut sum = 0u64;
-    let mut v = 0usize;
-    while v < n {
-        sum += work[v * n + u];
-        v += 1;
-    }
-    sum
 }

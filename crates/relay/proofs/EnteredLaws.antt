@@ -29,9 +29,9 @@ use Rattle.verdict.specs.declared.Outcome.the-variants.{Wait}
 use Rattle.verdict.specs.declared.Decision.{Decision}
 use Rattle.verdict.specs.declared.Answer.{Answer}
 use Rattle.verdict.specs.declared.Answer.the-variants.{Decided}
-use Rattle.verdict.specs.Refusals.{Refusal, Faultless, Due}
+use Rattle.checks.specs.Refusals.{Refusal, Faultless, Due}
 use Rattle.verdict.specs.Called.{Ringed, Called}
-use Rattle.verdict.proofs.RefusalLaws.{due-refused}
+use Rattle.checks.proofs.RefusalLaws.{due-refused}
 use Rattle.verdict.proofs.DecideLaws.{through-none, decide-waits}
 use Rattle.verdict.proofs.CallLaws.{call-unique}
 use Rattle.reply.specs.Replied.{frameOf}

@@ -19,9 +19,9 @@ use native.Mathlib.Decide.{ℕ-discrete, decLt}
 use lib.ListN.{length}
 use Rattle.lists.specs.Numbers.{numbersOf}
 use Rattle.lists.proofs.ReadLaws.{numbers-length}
-use Rattle.verdict.specs.Refusals.{Fault, Refusal, Faultless}
-use Rattle.verdict.specs.Refusals.Fault.{empty, crowded, uneven, short, stray, looped, absent, free, dear, heavy}
-use Rattle.verdict.proofs.RefusalLaws.{fault-range}
+use Rattle.checks.specs.Refusals.{Fault, Refusal, Faultless}
+use Rattle.checks.specs.Refusals.Fault.{empty, crowded, uneven, short, stray, looped, absent, free, dear, heavy}
+use Rattle.checks.proofs.RefusalLaws.{fault-range}
 use Rattle.relay.specs.Faults.{EntryFault, EntryRefusal, EntryFaultless, Shaped}
 use Rattle.relay.specs.Faults.EntryFault.{brokenRows, brokenCosts, narrow, ofNumbers}
 

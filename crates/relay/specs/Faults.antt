@@ -12,7 +12,7 @@ use mathlib.Core.List.{List}
 use Prim.Native.Nat.{ℕ, _*_, _/_, _%_, _<_, _≤_}
 use lib.ListN.{length}
 use Rattle.lists.specs.Numbers.{numbersOf}
-use Rattle.verdict.specs.Refusals.{Fault}
+use Rattle.checks.specs.Refusals.{Fault}
 
 pub data EntryFault (rows costs : List ℕ) (τ work answer : ℕ) : ℕ → Type 0 where
   -- 1: "Rows not in full eights are 1"

@@ -16,7 +16,7 @@ use Rattle.codec.specs.Frame.{answerBytes}
 use Rattle.lists.specs.Numbers.{numbersOf, allBytes}
 use Rattle.verdict.specs.declared.Decision.{Decision}
 use Rattle.verdict.specs.declared.Answer.the-variants.{Decided}
-use Rattle.verdict.specs.Refusals.{Faultless}
+use Rattle.checks.specs.Refusals.{Faultless}
 use Rattle.verdict.specs.Called.{Called}
 use Rattle.reply.specs.Replied.{frameOf}
 use Rattle.relay.specs.Faults.{Shaped}

@@ -45,7 +45,7 @@ fn start(
     let n = row_list.len();
     lists::read_numbers(rows, row_list);
     lists::read_numbers(costs, cost_list);
-    let k = verdict::refusal(row_list, cost_list, t, n * n);
+    let k = checks::refusal(row_list, cost_list, t, n * n);
     if k != 0 {
         return Opening { refusal: k, x: 0 };
     }

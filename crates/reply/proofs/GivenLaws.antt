@@ -21,12 +21,12 @@ use Rattle.flow.specs.Accepted.{costAt}
 use Rattle.verdict.specs.declared.Decision.{Decision}
 use Rattle.verdict.specs.declared.Answer.{Answer}
 use Rattle.verdict.specs.declared.Answer.the-variants.{Refused, Decided}
-use Rattle.verdict.specs.Refusals.{Fault, Faultless}
-use Rattle.verdict.specs.Refusals.Fault.{empty, crowded, uneven, short, stray, looped, absent, free, dear, heavy}
+use Rattle.checks.specs.Refusals.{Fault, Faultless}
+use Rattle.checks.specs.Refusals.Fault.{empty, crowded, uneven, short, stray, looped, absent, free, dear, heavy}
 use Rattle.verdict.specs.Answers.{outcomeNumber, Verdict}
 use Rattle.verdict.specs.Called.{Called}
 use Rattle.verdict.specs.Called.Called.{refuses, answers}
-use Rattle.verdict.proofs.RefusalLaws.{refusal-faultless}
+use Rattle.checks.proofs.RefusalLaws.{refusal-faultless}
 use Rattle.verdict.proofs.CallLaws.{decided-unique}
 use Rattle.frames.specs.declared.Answer.{Answer as Frame}
 use Rattle.frames.specs.Records.{answered}

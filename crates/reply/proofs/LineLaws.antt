@@ -16,7 +16,7 @@ use Rattle.graph.specs.Waits.{waits}
 use Rattle.flow.specs.Accepted.{costAt}
 use Rattle.verdict.specs.declared.Decision.{Decision}
 use Rattle.verdict.specs.Answers.{Verdict}
-use Rattle.verdict.proofs.RefusalLaws.{faultless-job, faultless-apart, faultless-positive}
+use Rattle.checks.proofs.RefusalLaws.{faultless-job, faultless-apart, faultless-positive}
 use Rattle.verdict.proofs.AnswerLaws.{verdict-unique}
 use Rattle.text.specs.Spell.{spell}
 use Rattle.frames.specs.declared.Answer.{Answer}

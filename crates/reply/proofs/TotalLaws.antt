@@ -22,7 +22,7 @@ use Rattle.graph.specs.Waits.{waits}
 use Rattle.graph.specs.Pools.{blocks, stateAt, WaitsFor}
 use Rattle.graph.proofs.PoolLaws.{Met, met-end}
 use Rattle.flow.specs.Accepted.{costAt}
-use Rattle.verdict.proofs.RefusalLaws.{faultless-few, faultless-job, faultless-apart}
+use Rattle.checks.proofs.RefusalLaws.{faultless-few, faultless-job, faultless-apart}
 use Rattle.verdict.proofs.ExistsLaws.{verdict-exists}
 use Rattle.frames.specs.declared.Refusal.{Refusal}
 use Rattle.frames.specs.Records.{answered}

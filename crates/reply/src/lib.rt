@@ -7,7 +7,7 @@ ghost use mathlib.Core.Path.{_≡_};
 ghost use lib.ListN.{length};
 ghost use Rattle.graph.specs.Waits.{waits};
 ghost use Rattle.flow.specs.Accepted.{costAt};
-ghost use Rattle.verdict.specs.Refusals.{Faultless};
+ghost use Rattle.checks.specs.Refusals.{Faultless};
 ghost use Rattle.verdict.specs.Answers.{Verdict};
 ghost use Rattle.reply.specs.Replied.{frameOf, Replied};
 

@@ -15,10 +15,10 @@ use Rattle.bits.specs.Mask.{MaskOf}
 use Rattle.graph.specs.Waits.{waits}
 use Rattle.graph.specs.Rings.{InX}
 use Rattle.flow.specs.Accepted.{Accepted}
-use Rattle.flow.specs.Cleared.{Cleared}
+use Rattle.sheet.specs.Cleared.{Cleared}
 use Rattle.flow.specs.Flowed.{Flowed}
-use Rattle.verdict.specs.Refusals.{Faultless}
-use Rattle.verdict.proofs.RefusalLaws.{faultless-some, faultless-few, faultless-size}
+use Rattle.checks.specs.Refusals.{Faultless}
+use Rattle.checks.proofs.RefusalLaws.{faultless-some, faultless-few, faultless-size}
 use Rattle.verdict.proofs.DecideLaws.{decide-accepted, cleared-faultless}
 
 module _ (rows costs : List ℕ) (τ x : ℕ) (old before : List ℕ) (C : Cleared (length rows) old before) where

@@ -15,7 +15,7 @@ ghost use Rattle.bits.specs.Mask.{MaskOf};
 ghost use Rattle.graph.specs.Waits.{waits};
 ghost use Rattle.graph.specs.Rings.{InX};
 ghost use Rattle.flow.specs.Flowed.{Flowed};
-ghost use Rattle.verdict.specs.Refusals.{Faultless};
+ghost use Rattle.checks.specs.Refusals.{Faultless};
 
 // The rounds of a call without faults, where x is X.
 fn rounds_of(
@@ -29,7 +29,7 @@ fn rounds_of(
     requires { ⌜ Faultless (now rows) (now costs) t (length (now work)) × MaskOf (InX (waits (now rows)) (length (now rows)) t) x ⌝ }
     ensures { λ r. ⌜ Flowed (now (rows .entry)) (now (costs .entry)) t x allowance (now (work .entry)) (now (work .exit)) (r .rounds) (r .left) (r .ins) (r .outs) ⌝ }
 {
-    flow::clear(work, rows.len());
+    sheet::clear(work, rows.len());
     flow::make_rounds(rows, costs, t, x, allowance, work)
 }
 
@@ -74,7 +74,7 @@ fn print_made(made: Made) {
 fn print_rounds(rows: &[u64], costs: &[u64], t: usize, allowance: u32, places: usize)
     requires { ⌜ places ≤ 6400 ⌝ }
 {
-    if verdict::refusal(rows, costs, t, places) != 0 {
+    if checks::refusal(rows, costs, t, places) != 0 {
         return;
     }
     let x = graph::on_rings(rows, t);

@@ -32,11 +32,11 @@ use Rattle.verdict.specs.declared.Outcome.the-variants.{Wait, AbortT, Ab
 use Rattle.verdict.specs.declared.Decision.{Decision}
 use Rattle.verdict.specs.declared.Answer.{Answer}
 use Rattle.verdict.specs.declared.Answer.the-variants.{Refused, Decided}
-use Rattle.verdict.specs.Refusals.{Refusal, Faultless}
+use Rattle.checks.specs.Refusals.{Refusal, Faultless}
 use Rattle.verdict.specs.Answers.{outcomeNumber, After, Verdict}
 use Rattle.verdict.specs.Called.{Flows, Called}
 use Rattle.verdict.specs.Called.Called.{refuses, answers}
-use Rattle.verdict.proofs.RefusalLaws.{refusal-unique, refusal-faultless, faultless-job, faultless-apart, faultless-positive}
+use Rattle.checks.proofs.RefusalLaws.{refusal-unique, refusal-faultless, faultless-job, faultless-apart, faultless-positive}
 use Rattle.verdict.proofs.AnswerLaws.{after-rounds, known, verdict-unique, Demand, verdict-demand}
 
 -- a place below n × n is that of a pair of jobs

@@ -37,19 +37,19 @@ use Rattle.network.proofs.ArcLaws.{net-unused}
 use Rattle.network.proofs.SinkSide.{Crossing}
 use Rattle.network.proofs.BestLaws.{crossing-best, best-price}
 use Rattle.flow.specs.Accepted.{costAt, Accepted}
-use Rattle.flow.specs.Cleared.{Cleared}
+use Rattle.sheet.specs.Cleared.{Cleared}
 use Rattle.flow.specs.Flowed.{Side, Ends, Flowed}
 use Rattle.flow.specs.Flowed.Ends.{settled, unfinished as ends-unfinished}
-use Rattle.flow.specs.Inflow.{inflowOf, Summable}
+use Rattle.sheet.specs.Inflow.{inflowOf, Summable}
 use Rattle.verdict.specs.declared.Outcome.the-variants.{Wait, AbortT, AbortOthers, NotYet}
 use Rattle.verdict.specs.declared.Decision.{Decision}
 use Rattle.verdict.specs.declared.Answer.the-variants.{Decided}
-use Rattle.verdict.specs.Refusals.{Faultless}
+use Rattle.checks.specs.Refusals.{Faultless}
 use Rattle.verdict.specs.Answers.{After, Victims, Verdict}
 use Rattle.verdict.specs.Answers.Verdict.{stays, itself, others, unfinished}
 use Rattle.verdict.specs.Called.{Flows, Ringed, Called}
 use Rattle.verdict.specs.Called.Called.{answers}
-use Rattle.verdict.proofs.RefusalLaws.{faultless-few, faultless-job, faultless-jobs, faultless-apart, faultless-priced, faultless-positive, faultless-bounded, faultless-size}
+use Rattle.checks.proofs.RefusalLaws.{faultless-few, faultless-job, faultless-jobs, faultless-apart, faultless-priced, faultless-positive, faultless-bounded, faultless-size}
 
 -- ---- what the last round leaves, by whether a path is left
 

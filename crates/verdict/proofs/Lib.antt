@@ -1,6 +1,3 @@
-pub mod RefusalLaws
-pub mod CheckLaws
-pub mod CheckedLaws
 pub mod AnswerLaws
 pub mod ExistsLaws
 pub mod DecideLaws

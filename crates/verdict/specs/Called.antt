@@ -17,7 +17,7 @@ use Rattle.flow.specs.Accepted.{costAt}
 use Rattle.verdict.specs.declared.Decision.{Decision}
 use Rattle.verdict.specs.declared.Answer.{Answer}
 use Rattle.verdict.specs.declared.Answer.the-variants.{Refused, Decided}
-use Rattle.verdict.specs.Refusals.{Refusal, Faultless}
+use Rattle.checks.specs.Refusals.{Refusal, Faultless}
 use Rattle.verdict.specs.Answers.{outcomeNumber, After, Verdict}
 
 pub record Flows (rows costs : List ℕ) (τ k : ℕ) (before after : List ℕ) : Type 0 where

@@ -1,5 +1,3 @@
-pub mod Refusals
-pub mod Checks
 pub mod Answers
 pub mod Called
 pub mod Worked

@@ -2,14 +2,8 @@
 //
 // `verdict` refuses an input by the first of refusals 1 to 8 that is due, and writes nothing then; otherwise it says wait, abort T, abort these others,
 // or not yet, with price, rounds and victims as the document defines them, and leaves the flow of the counted rounds in the work list.
-// `refusal` is its checks, and `decide` its part behind the search for a ring, for a caller that has a work list of zeros.
+// `decide` is its part behind the checks and the search for a ring, for a caller that has a work list of zeros.
 ghost use mathlib.Core.Path.{_≡_};
-ghost use Prim.Native.Nat.{_≤_};
-ghost use lib.ListN.{length};
-ghost use Rattle.sums.specs.Sum.{sum};
-ghost use Rattle.flow.specs.Accepted.{costAt};
-ghost use Rattle.verdict.specs.Checks.{Looped, Strayed, Payable};
-ghost use Rattle.verdict.specs.Refusals.{Due};
 ghost use Rattle.verdict.specs.Answers.{outcomeNumber};
 ghost use Rattle.verdict.specs.Called.{Ringed, Called};
 ghost use Rattle.verdict.specs.declared.Answer.the-variants.{Decided as Answer·Decided};
@@ -48,91 +42,6 @@ pub enum Answer {
     Decided(Decision),
 }
 
-// Whether a job waits for itself.
-fn waits_for_itself(rows: &[u64]) -> bool
-    requires { ⌜ length (now rows) ≤ 64 ⌝ }
-    ensures { λ r. ⌜ Looped (now (rows .entry)) r ⌝ }
-{
-    let mut u = 0;
-    while u < rows.len() {
-        if (rows[u] >> u) % 2 == 1 {
-            return true;
-        }
-        u += 1;
-    }
-    false
-}
-
-const HIGHEST_COST: u64 = 4398046511104;
-
-// Whether a cost is 0 or above 2^42.
-fn costs_stray(costs: &[u64]) -> bool
-    ensures { λ r. ⌜ Strayed (now (costs .entry)) r ⌝ }
-{
-    let mut u = 0;
-    while u < costs.len() {
-        if costs[u] == 0 {
-            return true;
-        }
-        if HIGHEST_COST < costs[u] {
-            return true;
-        }
-        u += 1;
-    }
-    false
-}
-
-// The sum of all costs.
-fn sum_of(costs: &[u64]) -> u64
-    requires { ⌜ Payable (now costs) ⌝ }
-    ensures { λ r. ⌜ r ≡ sum (length (now (costs .entry))) (costAt (now (costs .entry))) ⌝ }
-{
-    let mut total = 0u64;
-    let mut u = 0;
-    while u < costs.len() {
-        total += costs[u];
-        u += 1;
-    }
-    total
-}
-
-const HIGHEST_SUM: u64 = 9223372036854775808;
-
-// The number of the refusal that is due to an input with so many places of work, or 0.
-pub fn refusal(rows: &[u64], costs: &[u64], t: usize, places: usize) -> u8
-    ensures { λ r. ⌜ Due (now (rows .entry)) (now (costs .entry)) t places r ⌝ }
-{
-    let n = rows.len();
-    if n == 0 {
-        return 1;
-    }
-    if 64 < n {
-        return 1;
-    }
-    if costs.len() != n {
-        return 2;
-    }
-    if places < n * n {
-        return 3;
-    }
-    if !graph::rows_known(rows) {
-        return 4;
-    }
-    if waits_for_itself(rows) {
-        return 5;
-    }
-    if n <= t {
-        return 6;
-    }
-    if costs_stray(costs) {
-        return 7;
-    }
-    if HIGHEST_SUM < sum_of(costs) + 1 {
-        return 8;
-    }
-    0
-}
-
 // The verdict where a ring passes through t; x is X.
 pub fn decide(
     rows: &[u64],
@@ -154,7 +63,7 @@ pub fn decide(
             victims: 0,
         };
     }
-    let price = flow::inflow(work, rows.len(), t);
+    let price = sheet::inflow(work, rows.len(), t);
     if costs[t] < price {
         return Decision {
             outcome: Outcome::AbortT,
@@ -176,11 +85,11 @@ pub fn decide(
 pub fn verdict(rows: &[u64], costs: &[u64], t: usize, allowance: u32, work: &mut [u64]) -> Answer
     ensures { λ r. ⌜ Called (now (rows .entry)) (now (costs .entry)) t allowance (now (work .entry)) r (now (work .exit)) ⌝ }
 {
-    let k = refusal(rows, costs, t, work.len());
+    let k = checks::refusal(rows, costs, t, work.len());
     if k != 0 {
         return Answer::Refused(k);
     }
-    flow::clear(work, rows.len());
+    sheet::clear(work, rows.len());
     let x = graph::on_rings(rows, t);
     if !graph::ring_through(rows, t, x) {
         return Answer::Decided(Decision {

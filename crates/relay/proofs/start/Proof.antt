@@ -2,7 +2,7 @@
 use borrow.Author.Needs.{needs}
 use borrow.Author.Tests.{not-true, not-false}
 use native.Mathlib.Omega.{arith}
-use Rattle.verdict.proofs.RefusalLaws.{due-none, faultless-jobs, faultless-job}
+use Rattle.checks.proofs.RefusalLaws.{due-none, faultless-jobs, faultless-job}
 use Rattle.relay.proofs.EnteredLaws.{read-rows, read-costs, read-count, lent-few, lent-room, started-refused, started-waits, started-ahead}
 use Rattle.relay.proofs.SizeLaws.{square-under}
 use Rattle.relay.proofs.start.Statement.{statement}

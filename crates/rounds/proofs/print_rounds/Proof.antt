@@ -3,8 +3,8 @@ use borrow.Author.Needs.{needs}
 use mathlib.Core.Path.{sym, subst}
 use Prim.Native.Nat.{ℕ}
 use lib.Seq.{length-take-le}
-use Rattle.verdict.specs.Refusals.{Faultless}
-use Rattle.verdict.proofs.RefusalLaws.{due-none, faultless-jobs, faultless-job}
+use Rattle.checks.specs.Refusals.{Faultless}
+use Rattle.checks.proofs.RefusalLaws.{due-none, faultless-jobs, faultless-job}
 use Rattle.rounds.proofs.WorkLaws.{faultless-flows, flows-kept}
 use Rattle.rounds.proofs.print_rounds.Statement.{statement}
 use Rattle.rounds.proofs.print_rounds.Tie as tie

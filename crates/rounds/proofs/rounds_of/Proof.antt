@@ -1,6 +1,6 @@
 -- `rounds::rounds_of` meets its contract: the rounds on the cleared list. Assumes nothing.
 use borrow.Author.Needs.{needs}
-use Rattle.verdict.proofs.RefusalLaws.{faultless-few, faultless-size}
+use Rattle.checks.proofs.RefusalLaws.{faultless-few, faultless-size}
 use Rattle.rounds.proofs.WorkLaws.{cleared-accepted, flowed-cleared}
 use Rattle.rounds.proofs.rounds_of.Statement.{statement}
 use Rattle.rounds.proofs.rounds_of.Tie as tie

@@ -5,7 +5,7 @@ use mathlib.Core.Path.{refl}
 use Prim.Native.Nat.{_<_}
 use lib.ListN.{length}
 use Rattle.bits.proofs.Digits.{one-shl}
-use Rattle.verdict.proofs.RefusalLaws.{faultless-job, faultless-few, faultless-priced}
+use Rattle.checks.proofs.RefusalLaws.{faultless-job, faultless-few, faultless-priced}
 use Rattle.verdict.proofs.DecideLaws.{through-some, decide-accepted, decide-unfinished, decide-itself, decide-others, inflow-summable}
 use Rattle.verdict.proofs.decide.Statement.{statement}
 use Rattle.verdict.proofs.decide.Tie as tie

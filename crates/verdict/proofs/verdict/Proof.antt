@@ -2,9 +2,9 @@
 use borrow.Author.Needs.{needs}
 use borrow.Author.Tests.{not-true, not-false}
 use lib.ListN.{length}
-use Rattle.verdict.specs.Refusals.{Faultless}
+use Rattle.checks.specs.Refusals.{Faultless}
 use Rattle.verdict.specs.Called.Called.{refuses}
-use Rattle.verdict.proofs.RefusalLaws.{due-refused, due-none, faultless-jobs, faultless-job, faultless-few, faultless-size}
+use Rattle.checks.proofs.RefusalLaws.{due-refused, due-none, faultless-jobs, faultless-job, faultless-few, faultless-size}
 use Rattle.verdict.proofs.DecideLaws.{through-none, decide-waits, called-cleared, cleared-ringed, cleared-faultless}
 use Rattle.verdict.proofs.verdict.Statement.{statement}
 use Rattle.verdict.proofs.verdict.Tie as tie

@@ -2,11 +2,11 @@
 use Prim.Native.Nat.{_-_}
 use native.Mathlib.Nat.{mul-le-mul}
 use native.Mathlib.Omega.{arith}
-use Rattle.flow.proofs.StartLaws.{Clearing, clear-start, clear-turn, clear-end}
-use Rattle.flow.proofs.clear.Statement.{statement}
-use Rattle.flow.proofs.clear.Tie as tie
-use Rattle.flow.proofs.clear.Reads as reads
-use Rattle.flow.proofs.clear.Lts as lts
+use Rattle.sheet.proofs.ClearLaws.{Clearing, clear-start, clear-turn, clear-end}
+use Rattle.sheet.proofs.clear.Statement.{statement}
+use Rattle.sheet.proofs.clear.Tie as tie
+use Rattle.sheet.proofs.clear.Reads as reads
+use Rattle.sheet.proofs.clear.Lts as lts
 
 abbrev Inv-loop : tie.InvT-loop
 Inv-loop work₀ n end i₀ work i =

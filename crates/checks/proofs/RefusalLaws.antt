@@ -18,9 +18,9 @@ use lib.ListN.{length}
 use Rattle.sums.specs.Sum.{sum}
 use Rattle.graph.specs.Waits.{waits, Jobs}
 use Rattle.flow.specs.Accepted.{costAt}
-use Rattle.verdict.specs.Refusals.{Fault, Refusal, Faultless, Due}
-use Rattle.verdict.specs.Refusals.Due.{refused, none}
-use Rattle.verdict.specs.Refusals.Fault.{empty, crowded, uneven, short, stray, looped, absent, free, dear, heavy}
+use Rattle.checks.specs.Refusals.{Fault, Refusal, Faultless, Due}
+use Rattle.checks.specs.Refusals.Due.{refused, none}
+use Rattle.checks.specs.Refusals.Fault.{empty, crowded, uneven, short, stray, looped, absent, free, dear, heavy}
 
 module _ (rows costs : List ℕ) (τ work : ℕ) where
   pub refusal-unique : (j k : ℕ) → Refusal rows costs τ work j → Refusal rows costs τ work k → j ≡ k

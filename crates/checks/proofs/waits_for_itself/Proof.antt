@@ -1,11 +1,11 @@
--- `verdict::waits_for_itself` meets its contract. The loop's invariant: no job gone through waits for itself.
+-- `checks::waits_for_itself` meets its contract. The loop's invariant: no job gone through waits for itself.
 -- The measure: the rows left. Assumes nothing.
 use native.Mathlib.Omega.{arith}
 use Prim.Native.Nat.{_≤_, _-_}
 use lib.ListN.{length}
-use Rattle.verdict.proofs.CheckLaws.{Apart, apart-turn, apart-hit, apart-end}
-use Rattle.verdict.proofs.waits_for_itself.Statement.{statement}
-use Rattle.verdict.proofs.waits_for_itself.Tie as tie
+use Rattle.checks.proofs.CheckLaws.{Apart, apart-turn, apart-hit, apart-end}
+use Rattle.checks.proofs.waits_for_itself.Statement.{statement}
+use Rattle.checks.proofs.waits_for_itself.Tie as tie
 
 abbrev Inv-loop : tie.InvT-loop
 Inv-loop rows u₀ u = (length rows ≤ 64) × Apart rows u × (u ≤ length rows)

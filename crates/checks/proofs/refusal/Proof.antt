@@ -1,14 +1,14 @@
--- `verdict::refusal` meets its contract: a chain of checks, each with its refusal. Assumes nothing.
+-- `checks::refusal` meets its contract: a chain of checks, each with its refusal. Assumes nothing.
 use borrow.Author.Needs.{needs}
 use borrow.Author.Tests.{not-true, not-false}
 use native.Mathlib.Omega.{arith}
 use native.Mathlib.Nat.{mul-le-mul}
-use Rattle.verdict.specs.Refusals.Due.{none}
-use Rattle.verdict.specs.Refusals.Fault.{empty, crowded, uneven, short, absent}
-use Rattle.verdict.proofs.CheckLaws.{payable-sum}
-use Rattle.verdict.proofs.CheckedLaws.{Checked, checked-1, checked-2, checked-3, checked-4, checked-5, checked-6, checked-7, checked-8, checked-9, checked-payable, checked-faultless, fault-4, fault-5, fault-7, fault-8, refuse}
-use Rattle.verdict.proofs.refusal.Statement.{statement}
-use Rattle.verdict.proofs.refusal.Tie as tie
+use Rattle.checks.specs.Refusals.Due.{none}
+use Rattle.checks.specs.Refusals.Fault.{empty, crowded, uneven, short, absent}
+use Rattle.checks.proofs.CheckLaws.{payable-sum}
+use Rattle.checks.proofs.CheckedLaws.{Checked, checked-1, checked-2, checked-3, checked-4, checked-5, checked-6, checked-7, checked-8, checked-9, checked-payable, checked-faultless, fault-4, fault-5, fault-7, fault-8, refuse}
+use Rattle.checks.proofs.refusal.Statement.{statement}
+use Rattle.checks.proofs.refusal.Tie as tie
 
 returns : tie.Need-returns
 returns c = refuse (c .before .before .before .args .rows .now) (c .before .before .before .args .costs .now) (c .before .before .before .args .t) (c .before .before .before .args .places) 1 (checked-1 _ _ _ _) (empty (c .if1 .taken))

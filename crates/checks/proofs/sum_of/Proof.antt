@@ -1,11 +1,11 @@
--- `verdict::sum_of` meets its contract. The loop's invariant: the sum of the costs gone through, which is small.
+-- `checks::sum_of` meets its contract. The loop's invariant: the sum of the costs gone through, which is small.
 -- The measure: the costs left. Assumes nothing.
 use native.Mathlib.Omega.{arith}
 use Prim.Native.Nat.{_-_}
 use lib.ListN.{length}
-use Rattle.verdict.proofs.CheckLaws.{Added, added-start, added-turn, added-fits, added-end}
-use Rattle.verdict.proofs.sum_of.Statement.{statement}
-use Rattle.verdict.proofs.sum_of.Tie as tie
+use Rattle.checks.proofs.CheckLaws.{Added, added-start, added-turn, added-fits, added-end}
+use Rattle.checks.proofs.sum_of.Statement.{statement}
+use Rattle.checks.proofs.sum_of.Tie as tie
 
 abbrev Inv-loop : tie.InvT-loop
 Inv-loop costs total₀ u₀ total u = Added costs u total

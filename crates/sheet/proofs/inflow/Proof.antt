@@ -1,11 +1,11 @@
 -- `inflow`: the sum so far is what flows in from the jobs below v.
 use Prim.Native.Nat.{_-_}
 use native.Mathlib.Omega.{arith}
-use Rattle.flow.proofs.CostLaws.{Inflowing, inflow-start, inflow-place, inflow-grid, inflow-fits, inflow-turn, inflow-end}
-use Rattle.flow.proofs.inflow.Statement.{statement}
-use Rattle.flow.proofs.inflow.Tie as tie
-use Rattle.flow.proofs.inflow.Reads as reads
-use Rattle.flow.proofs.inflow.Lts as lts
+use Rattle.sheet.proofs.InflowLaws.{Inflowing, inflow-start, inflow-place, inflow-grid, inflow-fits, inflow-turn, inflow-end}
+use Rattle.sheet.proofs.inflow.Statement.{statement}
+use Rattle.sheet.proofs.inflow.Tie as tie
+use Rattle.sheet.proofs.inflow.Reads as reads
+use Rattle.sheet.proofs.inflow.Lts as lts
 
 abbrev Inv-loop : tie.InvT-loop
 Inv-loop work n u sum₀ v₀ sum v =

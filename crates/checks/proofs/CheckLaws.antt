@@ -22,8 +22,8 @@ use Rattle.sums.proofs.SumLaws.{sum-mono, sum-const}
 use Rattle.graph.specs.Waits.{waits}
 use Rattle.graph.proofs.WaitLaws.{waits-has, has-waits, waits-below}
 use Rattle.flow.specs.Accepted.{costAt}
-use Rattle.verdict.specs.Checks.{Looped, Strayed, Payable}
-use Rattle.verdict.specs.Checks.Looped.{some, none}
+use Rattle.checks.specs.Checks.{Looped, Strayed, Payable}
+use Rattle.checks.specs.Checks.Looped.{some, none}
 
 -- ---- no job waits for itself
 

@@ -1,11 +1,11 @@
--- `verdict::costs_stray` meets its contract. The loop's invariant: the costs gone through are in range.
+-- `checks::costs_stray` meets its contract. The loop's invariant: the costs gone through are in range.
 -- The measure: the costs left. Assumes nothing.
 use native.Mathlib.Omega.{arith}
 use Prim.Native.Nat.{_≤_, _-_}
 use lib.ListN.{length}
-use Rattle.verdict.proofs.CheckLaws.{Fit, fit-turn, fit-zero, fit-dear, fit-end}
-use Rattle.verdict.proofs.costs_stray.Statement.{statement}
-use Rattle.verdict.proofs.costs_stray.Tie as tie
+use Rattle.checks.proofs.CheckLaws.{Fit, fit-turn, fit-zero, fit-dear, fit-end}
+use Rattle.checks.proofs.costs_stray.Statement.{statement}
+use Rattle.checks.proofs.costs_stray.Tie as tie
 
 abbrev Inv-loop : tie.InvT-loop
 Inv-loop costs u₀ u = Fit costs u × (u ≤ length costs)

@@ -19,11 +19,11 @@ use Rattle.sums.specs.Sum.{sum}
 use Rattle.graph.specs.Waits.{waits, Known}
 use Rattle.graph.specs.Waits.Known.{all, stray as named}
 use Rattle.flow.specs.Accepted.{costAt}
-use Rattle.verdict.specs.Refusals.{Fault, Faultless, Due}
-use Rattle.verdict.specs.Refusals.Fault.{empty, crowded, uneven, short, stray, looped, absent, free, dear, heavy}
-use Rattle.verdict.specs.Refusals.Due.{refused}
-use Rattle.verdict.specs.Checks.{Looped, Strayed, Payable}
-use Rattle.verdict.proofs.RefusalLaws.{fault-range}
+use Rattle.checks.specs.Refusals.{Fault, Faultless, Due}
+use Rattle.checks.specs.Refusals.Fault.{empty, crowded, uneven, short, stray, looped, absent, free, dear, heavy}
+use Rattle.checks.specs.Refusals.Due.{refused}
+use Rattle.checks.specs.Checks.{Looped, Strayed, Payable}
+use Rattle.checks.proofs.RefusalLaws.{fault-range}
 
 pub record Checked (rows costs : List ℕ) (τ work m : ℕ) : Type 0 where
   pub some : 1 < m → length rows ≢ 0

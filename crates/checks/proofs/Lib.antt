@@ -1,0 +1,3 @@
+pub mod RefusalLaws
+pub mod CheckLaws
+pub mod CheckedLaws
