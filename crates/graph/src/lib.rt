@@ -18,12 +18,17 @@ pub fn rows_known(rows: &[u64]) -> bool
     ensures { λ r. ⌜ Known (now (rows .entry)) r ⌝ }
 {
     let n = rows.len();
+    if n == 0 {
+        return true;
+    }
+    let mut named = 0u64;
     let mut u = 0;
     while u < n {
-        if (rows[u] >> (n - 1)) >> 1 != 0 {
-            return false;
-        }
+        named |= rows[u];
         u += 1;
+    }
+    if (named >> (n - 1)) >> 1 != 0 {
+        return false;
     }
     true
 }

@@ -1,37 +1,30 @@
--- `graph::rows_known` meets its contract. The loop's invariant: the rows gone through name only jobs of the list.
+-- `graph::rows_known` meets its contract. The loop's invariant: named has whom the rows gone through name.
 -- The measure: the rows left. Assumes nothing.
 use native.Mathlib.Omega.{arith}
+use mathlib.Core.Path.{refl}
 use Prim.Native.Nat.{_-_}
 use lib.ListN.{length}
-use Rattle.graph.proofs.WaitLaws.{Fitting, fitting-start, fitting-turn, fitting-stray, fitting-end}
+use Rattle.graph.proofs.WaitLaws.{Naming, naming-start, naming-turn, naming-stray, naming-end, naming-none}
 use Rattle.graph.proofs.rows_known.Statement.{statement}
 use Rattle.graph.proofs.rows_known.Tie as tie
 
 abbrev Inv-loop : tie.InvT-loop
-Inv-loop rows n u₀ u = Fitting rows u
+Inv-loop rows n named₀ u₀ named u = Naming rows u named
 
 abbrev μ-loop : tie.MeasureT-loop
-μ-loop rows n u₀ u = length rows - u
-
-loop-holds : tie.Need-loop-holds Inv-loop μ-loop
-loop-holds c = fitting-start _ (c .pre)
-
-mul-if1 : tie.Need-mul-if1 Inv-loop μ-loop
-mul-if1 c = omega arith
-
-shared-slice-read-if1 : tie.Need-shared-slice-read-if1 Inv-loop μ-loop
-shared-slice-read-if1 c = c .before .loop-test .taken
-
-sub-if1 : tie.Need-sub-if1 Inv-loop μ-loop
-sub-if1 c = omega arith
-
-shr-if1 : tie.Need-shr-if1 Inv-loop μ-loop
-shr-if1 c = omega (arith, c .before .before .loop .inv .few)
+μ-loop rows n named₀ u₀ named u = length rows - u
 
 returns : tie.Need-returns Inv-loop μ-loop
-returns c =
-    let l = c .before .before .before .loop in
-    fitting-stray _ (l .u) (c .before .before .loop-test .taken) (omega (arith, c .before .shared-slice-known .given (l .u))) (c .if1 .taken)
+returns c = naming-none _ (c .if1 .taken)
+
+loop-holds : tie.Need-loop-holds Inv-loop μ-loop
+loop-holds c = naming-start _ (c .before .pre)
+
+mul-named : tie.Need-mul-named Inv-loop μ-loop
+mul-named c = omega arith
+
+shared-slice-read-named : tie.Need-shared-slice-read-named Inv-loop μ-loop
+shared-slice-read-named c = c .before .loop-test .taken
 
 add-u : tie.Need-add-u Inv-loop μ-loop
 add-u c = omega arith
@@ -40,10 +33,19 @@ loop-less : tie.Need-loop-less Inv-loop μ-loop
 loop-less c = omega arith
 
 loop-again : tie.Need-loop-again Inv-loop μ-loop
-loop-again c = let l = c .before .before .before .loop in fitting-turn _ (l .u) (l .inv) (c .before .before .loop-test .taken) (c .if1 .left)
+loop-again c = let l = c .before .before .loop in naming-turn _ (l .u) (l .named) _ (l .inv) (c .before .loop-test .taken) refl (omega (arith, c .shared-slice-known .given (l .u)))
+
+sub-if2 : tie.Need-sub-if2 Inv-loop μ-loop
+sub-if2 c = let n = c .before .before .if1 .left in omega arith
+
+shr-if2 : tie.Need-shr-if2 Inv-loop μ-loop
+shr-if2 c = omega (arith, c .before .loop .inv .few)
 
 returns-2 : tie.Need-returns-2 Inv-loop μ-loop
-returns-2 c = fitting-end _ _ (c .before .loop .inv) (c .loop-test .left)
+returns-2 c = let l = c .before .before .loop in naming-stray _ (l .u) (l .named) (l .inv) (c .before .before .before .if1 .left) (c .if2 .taken)
+
+returns-3 : tie.Need-returns-3 Inv-loop μ-loop
+returns-3 c = let l = c .before .before .loop in naming-end _ (l .u) (l .named) (l .inv) (c .before .loop-test .left) (c .before .before .before .if1 .left) (c .if2 .left)
 
 pub rows-known-spec : {M : Type 1} → statement M
 rows-known-spec =
@@ -51,13 +53,14 @@ rows-known-spec =
     (tie.spec
     Inv-loop
     μ-loop
-    loop-holds
-    mul-if1
-    shared-slice-read-if1
-    sub-if1
-    shr-if1
     returns
+    loop-holds
+    mul-named
+    shared-slice-read-named
     add-u
     loop-less
     loop-again
-    returns-2)
+    sub-if2
+    shr-if2
+    returns-2
+    returns-3)
