@@ -7,7 +7,7 @@
 --   checked-first                    so no fault of a smaller number is there
 --   refuse                           a fault found then is the refusal that is due
 --   checked-faultless                after all checks there is no fault
-use mathlib.Core.Path.{_≡_, sym, ap, subst}
+use mathlib.Core.Path.{_≡_, refl, sym, ap, subst}
 use mathlib.Core.Logic.{_≢_, ⊎-elim}
 use mathlib.Core.Bool.{Bool, true, false}
 use mathlib.Core.List.{List}
@@ -16,13 +16,15 @@ use native.Mathlib.Omega.{arith}
 use lib.Dec.{T}
 use lib.ListN.{length}
 use Rattle.sums.specs.Sum.{sum}
+use Rattle.sums.proofs.SumLaws.{sum-term}
 use Rattle.graph.specs.Waits.{waits, Known}
 use Rattle.graph.specs.Waits.Known.{all, stray as named}
 use Rattle.flow.specs.Accepted.{costAt}
 use Rattle.checks.specs.Refusals.{Fault, Faultless, Due}
 use Rattle.checks.specs.Refusals.Fault.{empty, crowded, uneven, short, stray, looped, absent, free, dear, heavy}
 use Rattle.checks.specs.Refusals.Due.{refused}
-use Rattle.checks.specs.Checks.{Looped, Strayed, Payable}
+use Rattle.checks.specs.Checks.{Looped, Summed}
+use Rattle.checks.specs.Checks.Summed.{strayed, whole}
 use Rattle.checks.proofs.RefusalLaws.{fault-range}
 
 pub record Checked (rows costs : List ℕ) (τ work m : ℕ) : Type 0 where
@@ -147,9 +149,9 @@ module _ (rows costs : List ℕ) (τ work : ℕ) where
     light = λ l. absurd (omega arith);
   }
 
-  pub checked-8 : (b : Bool) → Checked rows costs τ work 7 → Strayed costs b → b ≡ false → Checked rows costs τ work 8
-  checked-8 true C k e = absurd (subst T e tt)
-  checked-8 false C (Strayed.none k) e = record {
+  pub checked-8 : (s : ℕ) → Checked rows costs τ work 7 → Summed costs s → s ≢ 0 → Checked rows costs τ work 8
+  checked-8 s C (strayed j l k) ne = absurd (ne refl)
+  checked-8 s C (whole k) ne = record {
     some = λ l. C .some (omega arith);
     few = λ l. C .few (omega arith);
     even = λ l. C .even (omega arith);
@@ -162,13 +164,14 @@ module _ (rows costs : List ℕ) (τ work : ℕ) where
   }
 
   -- the sum that was added up is that of all jobs
-  pub checked-sum : Checked rows costs τ work 8 → (s : ℕ) → s ≡ sum (length costs) (costAt costs) → s + 1 ≡ suc (sum (length rows) (costAt costs))
-  checked-sum C s e =
+  pub checked-sum : Checked rows costs τ work 8 → (s : ℕ) → Summed costs s → s ≢ 0 → s + 1 ≡ suc (sum (length rows) (costAt costs))
+  checked-sum C s (strayed j l k) ne = absurd (ne refl)
+  checked-sum C s (whole k) ne =
       let q = ap (λ (z : ℕ). sum z (costAt costs)) (C .even (omega arith)) in
-      omega (arith, e, q)
+      omega (arith, q)
 
-  pub checked-9 : Checked rows costs τ work 8 → (s : ℕ) → s ≡ sum (length costs) (costAt costs) → s + 1 ≤ 2 ^ 63 → Checked rows costs τ work 9
-  checked-9 C s e a = record {
+  pub checked-9 : Checked rows costs τ work 8 → (s : ℕ) → Summed costs s → s ≢ 0 → s + 1 ≤ 2 ^ 63 → Checked rows costs τ work 9
+  checked-9 C s e ne a = record {
     some = λ l. C .some (omega arith);
     few = λ l. C .few (omega arith);
     even = λ l. C .even (omega arith);
@@ -177,15 +180,12 @@ module _ (rows costs : List ℕ) (τ work : ℕ) where
     apart = λ l. C .apart (omega arith);
     there = λ l. C .there (omega arith);
     fit = λ l. C .fit (omega arith);
-    light = λ l. subst (λ (z : ℕ). z ≤ 2 ^ 63) (checked-sum C s e) a;
+    light = λ l. subst (λ (z : ℕ). z ≤ 2 ^ 63) (checked-sum C s e ne) a;
   }
 
-  -- the costs can be added up
-  pub checked-payable : Checked rows costs τ work 8 → Payable costs
-  checked-payable C = record {
-    few = omega (arith, C .even (omega arith), C .few (omega arith));
-    each = λ j l. C .fit (omega arith) j (omega (arith, C .even (omega arith))) .1;
-  }
+  -- at most 64 costs can be added up
+  pub checked-few : Checked rows costs τ work 7 → length costs ≤ 64
+  checked-few C = omega (arith, C .even (omega arith), C .few (omega arith))
 
   -- ---- the faults that the checks find
 
@@ -197,12 +197,14 @@ module _ (rows costs : List ℕ) (τ work : ℕ) where
   fault-5 true (Looped.some j w) e = looped j w
   fault-5 false k e = absurd (subst T (sym e) tt)
 
-  pub fault-7 : (b : Bool) → Checked rows costs τ work 7 → Strayed costs b → b ≡ true → Fault rows costs τ work 7
-  fault-7 true C (Strayed.some j l k) e = let m : j < length rows = omega (arith, C .even (omega arith)) in ⊎-elim (free j m) (dear j m) k
-  fault-7 false C k e = absurd (subst T (sym e) tt)
+  pub fault-7 : (s : ℕ) → Checked rows costs τ work 7 → Summed costs s → s ≡ 0 → Fault rows costs τ work 7
+  fault-7 s C (strayed j l k) e = let m : j < length rows = omega (arith, C .even (omega arith)) in ⊎-elim (free j m) (dear j m) k
+  fault-7 s C (whole k) e =
+      let l : 0 < length costs = (let n = C .some (omega arith) in omega (arith, C .even (omega arith))) in
+      absurd (omega (arith, e, k 0 l .0, sum-term (length costs) (costAt costs) 0 l))
 
-  pub fault-8 : Checked rows costs τ work 8 → (s : ℕ) → s ≡ sum (length costs) (costAt costs) → 2 ^ 63 < s + 1 → Fault rows costs τ work 8
-  fault-8 C s e l = heavy (subst (λ (z : ℕ). 2 ^ 63 < z) (checked-sum C s e) l)
+  pub fault-8 : Checked rows costs τ work 8 → (s : ℕ) → Summed costs s → s ≢ 0 → 2 ^ 63 < s + 1 → Fault rows costs τ work 8
+  fault-8 C s e ne l = heavy (subst (λ (z : ℕ). 2 ^ 63 < z) (checked-sum C s e ne) l)
 
   -- a fault found after the checks before it is the refusal that is due
   pub refuse : (k : ℕ) → Checked rows costs τ work k → Fault rows costs τ work k → Due rows costs τ work k

@@ -1,10 +1,7 @@
 // The checks of a verdict call: the first of refusals 1 to 8 that is due.
-ghost use mathlib.Core.Path.{_≡_};
 ghost use Prim.Native.Nat.{_≤_};
 ghost use lib.ListN.{length};
-ghost use Rattle.sums.specs.Sum.{sum};
-ghost use Rattle.flow.specs.Accepted.{costAt};
-ghost use Rattle.checks.specs.Checks.{Looped, Strayed, Payable};
+ghost use Rattle.checks.specs.Checks.{Looped, Summed};
 ghost use Rattle.checks.specs.Refusals.{Due};
 
 // Whether a job waits for itself.
@@ -24,31 +21,20 @@ fn waits_for_itself(rows: &[u64]) -> bool
 
 const HIGHEST_COST: u64 = 4398046511104;
 
-// Whether a cost is 0 or above 2^42.
-fn costs_stray(costs: &[u64]) -> bool
-    ensures { λ r. ⌜ Strayed (now (costs .entry)) r ⌝ }
-{
-    let mut u = 0;
-    while u < costs.len() {
-        if costs[u] == 0 {
-            return true;
-        }
-        if HIGHEST_COST < costs[u] {
-            return true;
-        }
-        u += 1;
-    }
-    false
-}
-
-// The sum of all costs.
-fn sum_of(costs: &[u64]) -> u64
-    requires { ⌜ Payable (now costs) ⌝ }
-    ensures { λ r. ⌜ r ≡ sum (length (now (costs .entry))) (costAt (now (costs .entry))) ⌝ }
+// The sum of the costs, or 0 where one of them is 0 or above 2^42.
+fn sum_in_range(costs: &[u64]) -> u64
+    requires { ⌜ length (now costs) ≤ 64 ⌝ }
+    ensures { λ r. ⌜ Summed (now (costs .entry)) r ⌝ }
 {
     let mut total = 0u64;
     let mut u = 0;
     while u < costs.len() {
+        if costs[u] == 0 {
+            return 0;
+        }
+        if HIGHEST_COST < costs[u] {
+            return 0;
+        }
         total += costs[u];
         u += 1;
     }
@@ -83,10 +69,11 @@ pub fn refusal(rows: &[u64], costs: &[u64], t: usize, places: usize) -> u8
     if n <= t {
         return 6;
     }
-    if costs_stray(costs) {
+    let sum = sum_in_range(costs);
+    if sum == 0 {
         return 7;
     }
-    if HIGHEST_SUM < sum_of(costs) + 1 {
+    if HIGHEST_SUM < sum + 1 {
         return 8;
     }
     0

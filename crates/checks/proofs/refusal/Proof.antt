@@ -5,8 +5,8 @@ use native.Mathlib.Omega.{arith}
 use native.Mathlib.Nat.{mul-le-mul}
 use Rattle.checks.specs.Refusals.Due.{none}
 use Rattle.checks.specs.Refusals.Fault.{empty, crowded, uneven, short, absent}
-use Rattle.checks.proofs.CheckLaws.{payable-sum}
-use Rattle.checks.proofs.CheckedLaws.{Checked, checked-1, checked-2, checked-3, checked-4, checked-5, checked-6, checked-7, checked-8, checked-9, checked-payable, checked-faultless, fault-4, fault-5, fault-7, fault-8, refuse}
+use Rattle.checks.proofs.CheckLaws.{summed-small}
+use Rattle.checks.proofs.CheckedLaws.{Checked, checked-1, checked-2, checked-3, checked-4, checked-5, checked-6, checked-7, checked-8, checked-9, checked-few, checked-faultless, fault-4, fault-5, fault-7, fault-8, refuse}
 use Rattle.checks.proofs.refusal.Statement.{statement}
 use Rattle.checks.proofs.refusal.Tie as tie
 
@@ -37,7 +37,7 @@ passed-7 : (c : tie.Else7) → Checked (c .before .before .before .before .befor
 passed-7 c = checked-7 _ _ _ _ (passed-6 (c .before)) (c .if7 .left)
 
 passed-8 : (c : tie.Else8) → Checked (c .before .before .before .before .before .before .before .before .before .before .before .before .before .args .rows .now) (c .before .before .before .before .before .before .before .before .before .before .before .before .before .args .costs .now) (c .before .before .before .before .before .before .before .before .before .before .before .before .before .args .t) (c .before .before .before .before .before .before .before .before .before .before .before .before .before .args .places) 8
-passed-8 c = checked-8 _ _ _ _ _ (passed-7 (c .before .before)) (c .before .costs-stray .ensures) (c .if8 .left)
+passed-8 c = checked-8 _ _ _ _ _ (passed-7 (c .before .before)) (c .before .sum-in-range .ensures) (c .if8 .left)
 
 returns-3 : tie.Need-returns-3
 returns-3 c = refuse (c .before .before .before .before .before .args .rows .now) (c .before .before .before .before .before .args .costs .now) (c .before .before .before .before .before .args .t) (c .before .before .before .before .before .args .places) 2 (passed-2 (c .before)) (uneven (c .if3 .taken))
@@ -63,23 +63,20 @@ returns-6 c = refuse (c .before .before .before .before .before .before .before 
 returns-7 : tie.Need-returns-7
 returns-7 c = refuse (c .before .before .before .before .before .before .before .before .before .before .before .args .rows .now) (c .before .before .before .before .before .before .before .before .before .before .before .args .costs .now) (c .before .before .before .before .before .before .before .before .before .before .before .args .t) (c .before .before .before .before .before .before .before .before .before .before .before .args .places) 6 (passed-6 (c .before)) (absent (c .if7 .taken))
 
-costs-stray-requires : tie.Need-costs-stray-requires
-costs-stray-requires c κs = search needs
+sum-in-range-requires : tie.Need-sum-in-range-requires
+sum-in-range-requires c κs = checked-few _ _ _ _ (passed-7 c)
 
 returns-8 : tie.Need-returns-8
-returns-8 c = refuse (c .before .before .before .before .before .before .before .before .before .before .before .before .before .args .rows .now) (c .before .before .before .before .before .before .before .before .before .before .before .before .before .args .costs .now) (c .before .before .before .before .before .before .before .before .before .before .before .before .before .args .t) (c .before .before .before .before .before .before .before .before .before .before .before .before .before .args .places) 7 (passed-7 (c .before .before)) (fault-7 _ _ _ _ _ (passed-7 (c .before .before)) (c .before .costs-stray .ensures) (c .if8 .taken))
-
-sum-of-requires : tie.Need-sum-of-requires
-sum-of-requires c κs = checked-payable _ _ _ _ (passed-8 c)
+returns-8 c = refuse (c .before .before .before .before .before .before .before .before .before .before .before .before .before .args .rows .now) (c .before .before .before .before .before .before .before .before .before .before .before .before .before .args .costs .now) (c .before .before .before .before .before .before .before .before .before .before .before .before .before .args .t) (c .before .before .before .before .before .before .before .before .before .before .before .before .before .args .places) 7 (passed-7 (c .before .before)) (fault-7 _ _ _ _ _ (passed-7 (c .before .before)) (c .before .sum-in-range .ensures) (c .if8 .taken))
 
 add-if9 : tie.Need-add-if9
-add-if9 c = let p = checked-payable _ _ _ _ (passed-8 (c .before)) in omega (arith, payable-sum _ p, c .sum-of .ensures)
+add-if9 c = let p = passed-7 (c .before .before) in omega (arith, summed-small _ _ (checked-few _ _ _ _ p) (c .before .sum-in-range .ensures))
 
 returns-9 : tie.Need-returns-9
-returns-9 c = refuse (c .before .before .before .before .before .before .before .before .before .before .before .before .before .before .before .args .rows .now) (c .before .before .before .before .before .before .before .before .before .before .before .before .before .before .before .args .costs .now) (c .before .before .before .before .before .before .before .before .before .before .before .before .before .before .before .args .t) (c .before .before .before .before .before .before .before .before .before .before .before .before .before .before .before .args .places) 8 (passed-8 (c .before .before)) (fault-8 _ _ _ _ (passed-8 (c .before .before)) _ (c .before .sum-of .ensures) (c .if9 .taken))
+returns-9 c = refuse (c .before .before .before .before .before .before .before .before .before .before .before .before .before .before .args .rows .now) (c .before .before .before .before .before .before .before .before .before .before .before .before .before .before .args .costs .now) (c .before .before .before .before .before .before .before .before .before .before .before .before .before .before .args .t) (c .before .before .before .before .before .before .before .before .before .before .before .before .before .before .args .places) 8 (passed-8 (c .before)) (fault-8 _ _ _ _ (passed-8 (c .before)) _ (c .before .before .sum-in-range .ensures) (c .before .if8 .left) (c .if9 .taken))
 
 returns-10 : tie.Need-returns-10
-returns-10 c = none (checked-faultless _ _ _ _ (checked-9 _ _ _ _ (passed-8 (c .before .before)) _ (c .before .sum-of .ensures) (c .if9 .left)))
+returns-10 c = none (checked-faultless _ _ _ _ (checked-9 _ _ _ _ (passed-8 (c .before)) _ (c .before .before .sum-in-range .ensures) (c .before .if8 .left) (c .if9 .left)))
 
 pub refusal-spec : {M : Type 1} → statement M
 refusal-spec =
@@ -95,9 +92,8 @@ refusal-spec =
     waits-for-itself-requires
     returns-6
     returns-7
-    costs-stray-requires
+    sum-in-range-requires
     returns-8
-    sum-of-requires
     add-if9
     returns-9
     returns-10)
