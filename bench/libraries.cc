@@ -33,7 +33,7 @@ Rings read(const uint8_t *row_bytes, const uint8_t *cost_bytes, unsigned n,
     for (unsigned u = 0; u < n; u++) {
         rows[u] = get_number(row_bytes + 8 * u);
     }
-    uint64_t x = jobs_on_rings(rows, n, t);
+    uint64_t x = jobs_on_rings(rows, t);
     unsigned number[MOST_JOBS];
     Rings r;
     for (uint64_t rest = x; rest != 0; rest = without_lowest(rest)) {

@@ -256,7 +256,7 @@ uint8_t reference_verdict(const uint8_t *rows, size_t rows_len,
         return refusal;
     }
     s.t = (unsigned)t;
-    s.x = jobs_on_rings(s.rows, s.n, s.t);
+    s.x = jobs_on_rings(s.rows, s.t);
     size_t places = (size_t)s.n * s.n;
     struct verdict v = {WAIT, 0, 0, 0};
     if (s.x == only(s.t)) {

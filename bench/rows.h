@@ -61,18 +61,26 @@ static inline uint64_t reach(const uint64_t *rows, unsigned from)
     return seen;
 }
 
-/* X: T with all jobs that lie on a ring through it. */
-static inline uint64_t jobs_on_rings(const uint64_t *rows, unsigned n,
-                                     unsigned t)
+/* Those of the jobs that wait for a marked one. */
+static inline uint64_t gather(const uint64_t *rows, uint64_t jobs,
+                              uint64_t marked)
 {
-    uint64_t columns[MOST_JOBS];
-    memset(columns, 0, n * sizeof columns[0]);
-    for (unsigned u = 0; u < n; u++) {
-        for (uint64_t rest = rows[u]; rest != 0; rest = without_lowest(rest)) {
-            columns[lowest(rest)] |= only(u);
-        }
+    uint64_t hits = 0;
+    for (uint64_t rest = jobs; rest != 0; rest = without_lowest(rest)) {
+        unsigned u = lowest(rest);
+        hits |= (uint64_t)((rows[u] & marked) != 0) << u;
     }
-    return reach(rows, t) & reach(columns, t);
+    return hits;
+}
+
+/* X: T with all jobs that lie on a ring through it. */
+static inline uint64_t jobs_on_rings(const uint64_t *rows, unsigned t)
+{
+    uint64_t away = reach(rows, t), x = only(t), fresh;
+    while ((fresh = gather(rows, away ^ x, x)) != 0) {
+        x |= fresh;
+    }
+    return x;
 }
 
 #endif
