@@ -5,7 +5,7 @@
 #   sh tests/texts.sh [PROGRAM_TEXTS [ENTRY_TEXTS [SEED]]]
 set -eu
 cd "$(dirname "$0")/.."
-count=${1:-1000}
+count=${1:-300}
 seed=${3:-1}
 folder=$(mktemp -d)
 trap 'rm -rf "$folder"' EXIT
