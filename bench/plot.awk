@@ -39,6 +39,7 @@ END {
     step = step_for(top)
     limit = step
     while (limit < top) limit += step
+    # xmlns names the format; a viewer takes the file for a picture by that name, and fetches nothing.
     print "<svg xmlns=\"http://www.w3.org/2000/svg\" viewBox=\"0 0 720 430\" font-family=\"sans-serif\" font-size=\"14\" fill=\"#222\">"
     print "<rect width=\"720\" height=\"430\" fill=\"#fff\"/>"
     printf "<text x=\"%d\" y=\"24\" font-size=\"16\">Time of a verdict call on pool tables%s</text>\n", left, machine == "x86_64" ? "" : " (emulated)"

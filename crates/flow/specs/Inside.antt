@@ -1,4 +1,4 @@
--- What the inner functions of this layer promise: the sum of the costs of X, and the masks of the steps with room then.
+-- What the inner functions of this layer promise: the sum of the costs of X, and the masks of the steps with room before the first round.
 --
 --   Costed costs x                what `total_cost` is given: x has jobs of the list, and their costs add up to a number of 64 bits
 --   startMask rows τ x a          the mask of the steps from node a before the first round: from an out-node to the jobs of X for which its job waits,

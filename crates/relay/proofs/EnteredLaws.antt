@@ -13,9 +13,9 @@ use mathlib.Core.Path.{_≡_, refl, sym, ap, _∙_, subst}
 use mathlib.Core.Logic.{_≢_}
 use mathlib.Core.Bool.{Bool, true, false}
 use mathlib.Core.List.{List, _++_}
-use Prim.Native.Nat.{ℕ, zero, suc, _*_, _/_, _<_, _≤_}
+use Prim.Native.Nat.{ℕ, _*_, _/_, _<_, _≤_}
 use native.Mathlib.Omega.{arith}
-use lib.ListN.{length, getD, drop, replicate, length-replicate}
+use lib.ListN.{length, getD, drop, replicate, length-replicate, getD-replicate}
 use Rattle.bits.specs.Mask.{MaskOf}
 use Rattle.bits.proofs.Rest.{rest-end}
 use Rattle.walks.proofs.ReachLaws.{reaches-here}
@@ -45,11 +45,6 @@ use Rattle.relay.proofs.FaultLaws.{count, Passed, refusal-unique, refus
 -- "wait", with no round
 abbrev pub still : Decision
 still = record { outcome = Wait; price = 0; rounds = 0; victims = 0 }
-
-zeros : (n i : ℕ) → getD {A = ℕ} (replicate n 0) i 0 ≡ 0
-zeros zero i = refl
-zeros (suc n) zero = refl
-zeros (suc n) (suc i) = zeros n i
 
 -- how many flows there are
 abbrev pub square : List ℕ → ℕ
@@ -126,7 +121,7 @@ module _ (rows costs : List ℕ) (τ : ℕ) (work answer : List ℕ) where
 
             waiting : (allowance : ℕ) → OnNumbers rows costs τ allowance (Decided still) (replicate (square rows) 0)
             waiting allowance = decide-waits (numbersOf rows) (numbersOf costs) τ x (subst (λ (z : List ℕ). MaskOf (InX (waits z) (length z) τ) x) p X) (replicate (square rows) 0)
-                (subst (λ (z : ℕ). Faultless (numbersOf rows) (numbersOf costs) τ z) (sym (length-replicate (square rows) 0)) faultless) (λ i l. zeros (square rows) i) allowance none
+                (subst (λ (z : ℕ). Faultless (numbersOf rows) (numbersOf costs) τ z) (sym (length-replicate (square rows) 0)) faultless) (λ i l. getD-replicate (square rows) i 0 0 l) allowance none
 
             bytes : w ≡ allBytes (replicate (square rows) 0) ++ drop (8 * length {A = ℕ} (replicate (square rows) 0)) work
             bytes =
@@ -164,7 +159,7 @@ module _ (rows costs : List ℕ) (τ : ℕ) (work answer r c : List ℕ) where
     faultless = subst (Faultless r c τ) (sym (ap length z ∙ length-replicate (length r * length r) 0)) F;
     exact = X;
     ring = R;
-    blank = λ i l. ap (λ (f : List ℕ). getD f i 0) z ∙ zeros (length r * length r) i;
+    blank = λ i l. ap (λ (f : List ℕ). getD f i 0) z ∙ getD-replicate (length r * length r) i 0 0 l;
   }
 
 -- what `give` leaves, where f is the answer frame
