@@ -72,12 +72,30 @@ fn write_part(list: &[u64], at: usize, end: usize, bytes: &mut [u8])
     }
 }
 
+const FEW: usize = 64;
+
+// Writes every number of a list, 0 or not: where there are few that takes less time than to tell which are 0.
+fn write_each(list: &[u64], bytes: &mut [u8])
+    requires { ⌜ 8 * length (now list) ≤ length (now bytes) ⌝ }
+    ensures { λ _. ⌜ now (bytes .exit) ≡ allBytes (now (list .entry)) ++ drop (8 * length (now (list .entry))) (now (bytes .entry)) ⌝ }
+{
+    let mut i = 0;
+    while i < list.len() {
+        put_number(bytes, 8 * i, list[i]);
+        i += 1;
+    }
+}
+
 // Writes the bytes of a list of numbers at the front of a list of bytes.
 pub fn write_numbers(list: &[u64], bytes: &mut [u8])
     requires { ⌜ 8 * length (now list) ≤ length (now bytes) ⌝ }
     ensures { λ _. ⌜ now (bytes .exit) ≡ allBytes (now (list .entry)) ++ drop (8 * length (now (list .entry))) (now (bytes .entry)) ⌝ }
 {
     let n = list.len();
+    if n <= FEW {
+        write_each(list, bytes);
+        return;
+    }
     clear(bytes, 8 * n);
     let mut i = 0;
     while i + 8 <= n {

@@ -11,6 +11,7 @@ use Rattle.lists.proofs.write_numbers.Reads as reads
 use Rattle.lists.proofs.write_numbers.Lts as lts
 use Rattle.lists.proofs.blank_eight.Reads as blank-eight-reads
 use Rattle.lists.proofs.clear.Reads as clear-reads
+use Rattle.lists.proofs.write_each.Reads as write-each-reads
 use Rattle.lists.proofs.write_part.Reads as write-part-reads
 
 abbrev Inv-loop : tie.InvT-loop
@@ -18,6 +19,15 @@ Inv-loop list bytes₀ n i₀ bytes i = Writing list bytes₀ bytes n i
 
 abbrev μ-loop : tie.MeasureT-loop
 μ-loop list bytes₀ n i₀ bytes i = n - i
+
+write-each-requires : tie.Need-write-each-requires Inv-loop μ-loop
+write-each-requires c κs = omega arith
+
+same-length : tie.Need-same-length Inv-loop μ-loop
+same-length c = omega arith
+
+returns : tie.Need-returns Inv-loop μ-loop
+returns c = c .before .before .write-each .ensures
 
 mul-clear : tie.Need-mul-clear Inv-loop μ-loop
 mul-clear c = omega arith
@@ -49,16 +59,16 @@ loop-less c = omega arith
 loop-again : tie.Need-loop-again Inv-loop μ-loop
 loop-again c =
     let l = c .before .before .before .loop in
-    writing-part _ _ _ _ _ (l .inv) _ 8 (omega arith) (⊎-elim (λ w. inl (w .5 ∙ w .2 .ensures)) (λ w. inr (c .before .blank-eight .ensures (not-false _ (w .0 .left)), w .1)) (c .if1 .came))
+    writing-part _ _ _ _ _ (l .inv) _ 8 (omega arith) (⊎-elim (λ w. inl (w .5 ∙ w .2 .ensures)) (λ w. inr (c .before .blank-eight .ensures (not-false _ (w .0 .left)), w .1)) (c .if2 .came))
 
 write-part-requires-2 : tie.Need-write-part-requires-2 Inv-loop μ-loop
 write-part-requires-2 c κs = writing-asks _ _ _ _ _ (c .before .before .loop .inv) _ (omega arith) (omega arith)
 
-same-length : tie.Need-same-length Inv-loop μ-loop
-same-length c = omega arith
+same-length-2 : tie.Need-same-length-2 Inv-loop μ-loop
+same-length-2 c = omega arith
 
-returns : tie.Need-returns Inv-loop μ-loop
-returns c =
+returns-2 : tie.Need-returns-2 Inv-loop μ-loop
+returns-2 c =
     let l = c .before .before .before .before .before .loop in
     let z = c .before .before .before .before .before .before .before .before in
     writing-all _ _ _ (z .clear .ensures) _ (writing-rest _ _ _ _ _ (l .inv) _ (c .before .before .write-part2 .ensures))
@@ -69,6 +79,9 @@ write-numbers-spec =
     (tie.spec
     Inv-loop
     μ-loop
+    write-each-requires
+    same-length
+    returns
     mul-clear
     clear-requires
     loop-holds
@@ -80,5 +93,5 @@ write-numbers-spec =
     loop-less
     loop-again
     write-part-requires-2
-    same-length
-    returns)
+    same-length-2
+    returns-2)
