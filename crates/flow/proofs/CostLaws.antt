@@ -1,4 +1,4 @@
--- The loop of `total_cost`: a sum collected term by term.
+-- The sum in the loop of `begin`, collected term by term.
 -- Assumes nothing.
 --
 --   Totalling costs x rest sum    sum and the costs of the jobs that are still in rest add up to S
@@ -14,7 +14,7 @@ use lib.Count.{trailingZeros}
 use lib.ListN.{length, getD}
 use Rattle.bits.specs.Mask.{Has, has}
 use Rattle.bits.proofs.Masks.{has-test, test-has}
-use Rattle.bits.proofs.Rest.{Rest, rest-start, rest-end, rest-low, rest-here, rest-below, rest-less, rest-next, rest-gone, rest-cases}
+use Rattle.bits.proofs.Rest.{Rest, rest-start, rest-end, rest-low, rest-here, rest-next, rest-gone, rest-cases}
 use Rattle.sums.specs.Sum.{sum, gate}
 use Rattle.sums.proofs.TestLaws.{T-eq}
 use Rattle.sums.proofs.SumLaws.{gate-on, gate-off, sum-point, sum-zero}
@@ -32,14 +32,8 @@ total-start costs x C l = record { given = C; rest-part = rest-start x l; so-far
 
 module _ (costs : List ℕ) (x rest acc : ℕ) (A : Totalling costs x rest acc) where
   module _ (some : rest ≢ 0) where
-    pub total-below : trailingZeros 64 rest < 64
-    total-below = rest-below x rest (A .rest-part) some
-
     pub total-job : trailingZeros 64 rest < length costs
     total-job = A .given .members (trailingZeros 64 rest) (rest-low x rest (A .rest-part) some)
-
-    pub total-less : bitAnd rest (rest - 1) < rest
-    total-less = rest-less x rest (A .rest-part) some
 
     -- the lowest job's cost is one term
     term : total (length costs) (has rest) (costAt costs) ≡ total (length costs) (has (bitAnd rest (rest - 1))) (costAt costs) + costAt costs (trailingZeros 64 rest)

@@ -3,7 +3,7 @@
 --
 --   Running                                  k rounds were made, the lists hold and show their rooms, and the search has answered for the next round
 --   accepted-costed, accepted-beginnable, accepted-ready, running-ready
---                                            what `total_cost`, `begin` and `search` ask for
+--                                            what `begin` and `search` ask for
 --   running-start                            before the first round
 --   running-measurable, running-pushable     what `amount` and `push` ask for
 --   running-next                             one more round

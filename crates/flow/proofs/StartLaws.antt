@@ -1,4 +1,4 @@
--- The loop of `begin`: the masks before the first round.
+-- The masks in the loop of `begin`, which are those before the first round.
 -- Assumes nothing.
 --
 --   Beginning rows τ x rest steps        the masks of the jobs that are no more in rest are those of the start, all others 0

@@ -1,9 +1,9 @@
--- What the inner functions of this layer promise: the sum of the costs of X, and the masks of the steps with room before the first round.
+-- What `begin`, the inner function of this layer, promises: the masks of the steps with room before the first round. It adds up the costs of X as well.
 --
---   Costed costs x                what `total_cost` is given: x has jobs of the list, and their costs add up to a number of 64 bits
+--   Costed costs x                what `begin` is given for the sum: x has jobs of the list, and their costs add up to a number of 64 bits
 --   startMask rows τ x a          the mask of the steps from node a before the first round: from an out-node to the jobs of X for which its job waits,
 --                                 from an in-node to the out-node of its job, unless that is T; none from nodes of jobs outside X
---   Beginnable rows x steps       what `begin` is given: 128 masks that are 0, and x has jobs of the list
+--   Beginnable rows x steps       what `begin` is given for the masks: 128 masks that are 0, and x has jobs of the list
 --   Begun rows τ x steps          the masks before the first round
 use mathlib.Core.Path.{_≡_}
 use mathlib.Core.Bool.{not}

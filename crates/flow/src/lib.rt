@@ -20,35 +20,24 @@ pub struct Made {
     pub outs: u64,
 }
 
-// S, the sum of the costs of the jobs of x.
-fn total_cost(costs: &[u64], x: u64) -> u64
-    requires { ⌜ Costed (now costs) x ⌝ }
+// The masks of the steps with room before the first round; returns S, the sum of the costs of the jobs of x.
+fn begin(rows: &[u64], costs: &[u64], t: usize, x: u64, steps: &mut [u64; 128]) -> u64
+    requires { ⌜ Beginnable (now rows) x (now steps) × Costed (now costs) x ⌝ }
     ensures { λ r. ⌜ r ≡ total (length (now (costs .entry))) (has x) (costAt (now (costs .entry))) ⌝ }
-{
-    let mut rest = x;
-    let mut sum = 0u64;
-    while rest != 0 {
-        let u = u64::trailing_zeros(rest) as usize;
-        sum += costs[u];
-        rest = rest & (rest - 1);
-    }
-    sum
-}
-
-// The masks of the steps with room before the first round.
-fn begin(rows: &[u64], t: usize, x: u64, steps: &mut [u64; 128])
-    requires { ⌜ Beginnable (now rows) x (now steps) ⌝ }
     ensures { λ _. ⌜ Begun (now (rows .entry)) t x (now (steps .exit)) ⌝ }
 {
     let mut rest = x;
+    let mut sum = 0u64;
     while rest != 0 {
         let u = u64::trailing_zeros(rest) as usize;
         steps[2 * u + 1] = rows[u] & x;
         if u != t {
             steps[2 * u] = 1u64 << u;
         }
+        sum += costs[u];
         rest = rest & (rest - 1);
     }
+    sum
 }
 
 // The rounds from T's out-node to its in-node, until no path is left or the allowance is used up.
@@ -63,9 +52,8 @@ pub fn make_rounds(
     requires { ⌜ Accepted (now rows) (now costs) t x (now work) ⌝ }
     ensures { λ r. ⌜ Flowed (now (rows .entry)) (now (costs .entry)) t x allowance (now (work .entry)) (now (work .exit)) (r .rounds) (r .left) (r .ins) (r .outs) ⌝ }
 {
-    let wide = total_cost(costs, x) + 1;
     let mut steps = [0u64; 128];
-    begin(rows, t, x, &mut steps);
+    let wide = begin(rows, costs, t, x, &mut steps) + 1;
     let mut thru = [0u64; 64];
     let mut queue = [0u8; 128];
     let mut parent = [0u8; 128];

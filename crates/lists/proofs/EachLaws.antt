@@ -53,7 +53,7 @@ each-turn list b₀ b b′ i room E l e =
     let m : i ≤ length list = omega arith in
     let n : 8 * (i + 1) ≡ 8 * i + 8 = omega arith in
     let d : b′ ≡ first list (i + 1) ++ drop (8 * (i + 1)) b₀ =
-        e ∙ rw (E .done, front list b₀ i m, behind list b₀ i m, n, add-one i, take-suc list i 0 l, all-snoc (take i list) (getD list i 0)) refl in
+    e ∙ rw (E .done, front list b₀ i m, behind list b₀ i m, n, add-one i, take-suc list i 0 l, all-snoc (take i list) (getD list i 0)) refl in
     record { under = omega arith; size = ap length d ∙ each-size list b₀ (i + 1) (omega arith) room; done = d }
 
 pub each-end : (list b₀ b : List ℕ) (i : ℕ) → Each list b₀ b i → length list ≤ i → b ≡ allBytes list ++ drop (8 * length list) b₀

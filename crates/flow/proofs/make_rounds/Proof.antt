@@ -9,42 +9,38 @@ use Rattle.flow.proofs.make_rounds.Tie as tie
 use Rattle.flow.proofs.make_rounds.Reads as reads
 use Rattle.flow.proofs.make_rounds.Lts as lts
 use Rattle.flow.proofs.begin.Reads as begin-reads
-use Rattle.flow.proofs.total_cost.Reads as total-cost-reads
 use Rattle.push.proofs.amount.Reads as amount-reads
 use Rattle.push.proofs.push.Reads as push-reads
 use Rattle.search.proofs.search.Reads as search-reads
 use Rattle.side.proofs.sink_side.Reads as sink-side-reads
 
 abbrev Inv-loop : tie.InvT-loop
-Inv-loop rows costs t x allowance work₀ wide steps₀ thru₀ queue₀ parent₀ rounds₀ e₀ work steps thru queue parent rounds e =
+Inv-loop rows costs t x allowance work₀ steps₀ wide thru₀ queue₀ parent₀ rounds₀ e₀ work steps thru queue parent rounds e =
     Running rows costs t x allowance wide work₀ work thru steps queue parent rounds e
 
 abbrev μ-loop : tie.MeasureT-loop
-μ-loop rows costs t x allowance work₀ wide steps₀ thru₀ queue₀ parent₀ rounds₀ e₀ work steps thru queue parent rounds e = allowance - rounds
-
-total-cost-requires : tie.Need-total-cost-requires Inv-loop μ-loop
-total-cost-requires c κs = accepted-costed _ _ _ _ _ (c .before .before .before .pre)
-
-add-wide : tie.Need-add-wide Inv-loop μ-loop
-add-wide c = omega (arith, c .total-cost .ensures, total-small _ _ _ _ _ (c .before .before .before .before .pre))
+μ-loop rows costs t x allowance work₀ steps₀ wide thru₀ queue₀ parent₀ rounds₀ e₀ work steps thru queue parent rounds e = allowance - rounds
 
 begin-requires : tie.Need-begin-requires Inv-loop μ-loop
-begin-requires c κs = accepted-beginnable _ _ _ _ _ _ (c .before .before .before .before .before .pre) 128 refl refl
+begin-requires c κs = let a = c .before .before .before .before .pre in (accepted-beginnable _ _ _ _ _ _ a 128 refl refl, accepted-costed _ _ _ _ _ a)
+
+add-wide : tie.Need-add-wide Inv-loop μ-loop
+add-wide c = omega (arith, c .begin .ensures .0, total-small _ _ _ _ _ (c .before .before .before .before .before .pre))
 
 mul-search : tie.Need-mul-search Inv-loop μ-loop
-mul-search c = let a = c .before .before .before .before .before .before .before .pre in omega (arith, a .job, a .jobs .few)
+mul-search c = let a = c .before .before .before .before .before .before .pre in omega (arith, a .job, a .jobs .few)
 
 add-search : tie.Need-add-search Inv-loop μ-loop
-add-search c = let a = c .before .before .before .before .before .before .before .pre in omega (arith, a .job, a .jobs .few)
+add-search c = let a = c .before .before .before .before .before .before .pre in omega (arith, a .job, a .jobs .few)
 
 mul-search-2 : tie.Need-mul-search-2 Inv-loop μ-loop
-mul-search-2 c = let a = c .before .before .before .before .before .before .before .pre in omega (arith, a .job, a .jobs .few)
+mul-search-2 c = let a = c .before .before .before .before .before .before .pre in omega (arith, a .job, a .jobs .few)
 
 search-requires : tie.Need-search-requires Inv-loop μ-loop
-search-requires c κs = accepted-ready _ _ _ _ _ _ _ (c .before .before .before .before .before .before .before .before .before .pre) refl refl
+search-requires c κs = accepted-ready _ _ _ _ _ _ _ (c .before .before .before .before .before .before .before .before .pre) refl refl
 
 loop-holds : tie.Need-loop-holds Inv-loop μ-loop
-loop-holds c = running-start _ _ _ _ _ _ _ _ _ _ _ _ _ (c .before .before .before .before .before .before .before .before .before .before .pre) (c .before .before .before .before .before .before .total-cost .ensures) refl 64 refl refl (c .before .before .before .before .begin .ensures) _ _ (c .search .ensures)
+loop-holds c = running-start _ _ _ _ _ _ _ _ _ _ _ _ _ (c .before .before .before .before .before .before .before .before .before .pre) (c .before .before .before .before .begin .ensures .0) refl 64 refl refl (c .before .before .before .before .begin .ensures .1) _ _ (c .search .ensures)
 
 same-length : tie.Need-same-length Inv-loop μ-loop
 same-length c = c .before .before .loop .inv .size
@@ -59,7 +55,7 @@ push-requires : tie.Need-push-requires Inv-loop μ-loop
 push-requires c κs = running-pushable _ _ _ _ _ _ _ _ _ _ _ _ _ _ (c .before .before .before .before .before .before .before .before .before .before .before .before .loop .inv) (c .before .before .before .before .before .before .before .before .before .before .before .loop-test .taken) _ (c .before .before .before .before .before .amount .ensures)
 
 add-rounds : tie.Need-add-rounds Inv-loop μ-loop
-add-rounds c = omega (arith, c .before .before .before .before .before .before .before .before .before .before .before .before .before .before .before .before .before .before .before .before .before .before .before .before .before .before .fits .allowance, c .before .before .before .before .before .before .before .before .before .before .before .before .before .before .before .loop .inv .limit, c .before .before .before .before .before .before .before .before .before .before .before .before .before .if1 .left)
+add-rounds c = omega (arith, c .before .before .before .before .before .before .before .before .before .before .before .before .before .before .before .before .before .before .before .before .before .before .before .before .before .fits .allowance, c .before .before .before .before .before .before .before .before .before .before .before .before .before .before .before .loop .inv .limit, c .before .before .before .before .before .before .before .before .before .before .before .before .before .if1 .left)
 
 mul-search-3 : tie.Need-mul-search-3 Inv-loop μ-loop
 mul-search-3 c = omega (arith, running-job _ _ _ _ _ _ _ _ _ _ _ _ _ _ (c .before .before .before .before .before .before .before .before .before .before .before .before .before .before .before .before .loop .inv))
@@ -94,9 +90,8 @@ make-rounds-spec =
     (tie.spec
     Inv-loop
     μ-loop
-    total-cost-requires
-    add-wide
     begin-requires
+    add-wide
     mul-search
     add-search
     mul-search-2
