@@ -20,7 +20,7 @@ use Rattle.sums.specs.Sum.{sum}
 use Rattle.sums.proofs.SumLaws.{sum-mono, sum-const}
 use Rattle.graph.specs.Waits.{waits}
 use Rattle.graph.proofs.WaitLaws.{waits-has, has-waits, waits-below}
-use Rattle.flow.specs.Accepted.{costAt}
+use Rattle.network.specs.Costs.{costAt}
 use Rattle.checks.specs.Checks.{Looped, Summed}
 use Rattle.checks.specs.Checks.Looped.{some, none}
 use Rattle.checks.specs.Checks.Summed.{strayed, whole}

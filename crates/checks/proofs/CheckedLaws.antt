@@ -19,7 +19,7 @@ use Rattle.sums.specs.Sum.{sum}
 use Rattle.sums.proofs.SumLaws.{sum-term}
 use Rattle.graph.specs.Waits.{waits, Known}
 use Rattle.graph.specs.Waits.Known.{all, stray as named}
-use Rattle.flow.specs.Accepted.{costAt}
+use Rattle.network.specs.Costs.{costAt}
 use Rattle.checks.specs.Refusals.{Fault, Faultless, Due}
 use Rattle.checks.specs.Refusals.Fault.{empty, crowded, uneven, short, stray, looped, absent, free, dear, heavy}
 use Rattle.checks.specs.Refusals.Due.{refused}

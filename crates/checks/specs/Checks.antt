@@ -11,7 +11,7 @@ use lib.Dec.{T}
 use lib.ListN.{length}
 use Rattle.sums.specs.Sum.{sum}
 use Rattle.graph.specs.Waits.{waits}
-use Rattle.flow.specs.Accepted.{costAt}
+use Rattle.network.specs.Costs.{costAt}
 
 pub data Looped (rows : List ℕ) : Bool → Type 0 where
   some : (j : ℕ) → T (waits rows j j) → Looped rows true

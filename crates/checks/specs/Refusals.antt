@@ -13,7 +13,7 @@ use lib.Dec.{T}
 use lib.ListN.{length}
 use Rattle.sums.specs.Sum.{sum}
 use Rattle.graph.specs.Waits.{waits}
-use Rattle.flow.specs.Accepted.{costAt}
+use Rattle.network.specs.Costs.{costAt}
 
 pub data Fault (rows costs : List ℕ) (τ work : ℕ) : ℕ → Type 0 where
   -- 1: "no rows, or more than 64"

@@ -30,7 +30,8 @@ use Rattle.network.proofs.PushLaws.{room-at}
 use Rattle.network.proofs.ArcLaws.{net-job, net-in, net-wait, net-out, net-unused}
 use Rattle.search.specs.Masks.{at, masked}
 use Rattle.search.proofs.MaskSteps.{step-parts, step-made}
-use Rattle.flow.specs.Accepted.{costAt, Accepted}
+use Rattle.network.specs.Costs.{costAt}
+use Rattle.flow.specs.Accepted.{Accepted}
 use Rattle.flow.specs.Inside.{startMask, Begun}
 use Rattle.flow.proofs.HeldLaws.{Framed, Held}
 use Rattle.flow.proofs.ShownLaws.{Shown}

@@ -19,7 +19,7 @@ use Rattle.sums.specs.Sum.{sum, gate}
 use Rattle.sums.proofs.TestLaws.{T-eq}
 use Rattle.sums.proofs.SumLaws.{gate-on, gate-off, sum-point, sum-zero}
 use Rattle.network.specs.Arcs.{total}
-use Rattle.flow.specs.Accepted.{costAt}
+use Rattle.network.specs.Costs.{costAt}
 use Rattle.flow.specs.Inside.{Costed}
 
 pub record Totalling (costs : List ℕ) (x rest acc : ℕ) : Type 0 where

@@ -24,7 +24,8 @@ use Rattle.network.specs.Arcs.{inn, out, within, capacity, waitCount}
 use Rattle.network.proofs.SameRooms.{Same, same-sym, reaches-same}
 use Rattle.network.proofs.RoundLaws.{rounds-unique, stuck-last, count-unique}
 use Rattle.network.proofs.Tally.{capacity-counted}
-use Rattle.flow.specs.Accepted.{costAt, Accepted}
+use Rattle.network.specs.Costs.{costAt}
+use Rattle.flow.specs.Accepted.{Accepted}
 use Rattle.flow.specs.Flowed.{Side, Ends, Flowed}
 use Rattle.flow.specs.Flowed.Ends.{settled, unfinished}
 

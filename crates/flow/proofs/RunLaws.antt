@@ -30,7 +30,8 @@ use Rattle.search.specs.Masks.{at, masked}
 use Rattle.search.specs.Sought.{Ready, Path, Sought}
 use Rattle.push.specs.Way.{Way, Measurable, Amount, Pushable, PushedAlong}
 use Rattle.side.specs.Home.{Sidable, Sided}
-use Rattle.flow.specs.Accepted.{costAt, Accepted}
+use Rattle.network.specs.Costs.{costAt}
+use Rattle.flow.specs.Accepted.{Accepted}
 use Rattle.flow.specs.Flowed.{Ends, Flowed}
 use Rattle.flow.specs.Flowed.Ends.{settled, unfinished}
 use Rattle.flow.specs.Inside.{Costed, Beginnable, Begun}

@@ -1,7 +1,6 @@
 -- What the rounds are made on: an accepted graph with its costs, the timed-out job τ (the document's T), and a set of jobs x, the document's X.
 -- The checks of a verdict call (document 01, refusals 1 to 8) and the graph layer's X give every field.
 --
---   costAt costs u                    job u's cost
 --   Accepted rows costs τ x work      what the public call of this layer requires
 use mathlib.Core.Path.{_≡_}
 use mathlib.Core.List.{List}
@@ -11,9 +10,7 @@ use lib.ListN.{length, getD}
 use Rattle.bits.specs.Mask.{Has}
 use Rattle.sums.specs.Sum.{sum}
 use Rattle.graph.specs.Waits.{waits, Jobs}
-
-unfoldable pub costAt : List ℕ → ℕ → ℕ
-costAt costs u = getD costs u 0
+use Rattle.network.specs.Costs.{costAt}
 
 pub record Accepted (rows costs : List ℕ) (τ x : ℕ) (work : List ℕ) : Type 0 where
   -- at most 64 jobs, no row names a job n or above, no job waits for itself

@@ -19,7 +19,7 @@ use Rattle.graph.specs.Waits.{waits}
 use Rattle.network.specs.Rooms.{Room, step}
 use Rattle.network.specs.Rounds.{Rounds, Stuck}
 use Rattle.network.specs.Arcs.{inn, out, flowOn, within, capacity}
-use Rattle.flow.specs.Accepted.{costAt}
+use Rattle.network.specs.Costs.{costAt}
 
 pub record Side (r : Room) (n τ : ℕ) (node : ℕ → ℕ) (u : ℕ) : Type 0 where
   pub job : u < n

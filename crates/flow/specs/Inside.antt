@@ -17,7 +17,7 @@ use Rattle.sums.specs.Sum.{gate}
 use Rattle.network.specs.Rooms.{pick}
 use Rattle.network.specs.Arcs.{total}
 use Rattle.search.specs.Masks.{at}
-use Rattle.flow.specs.Accepted.{costAt}
+use Rattle.network.specs.Costs.{costAt}
 
 pub record Costed (costs : List ℕ) (x : ℕ) : Type 0 where
   pub members : (u : ℕ) → Has x u → u < length costs

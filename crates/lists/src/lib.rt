@@ -1,6 +1,6 @@
 // Lists of numbers as bytes, 8 a number, most significant first: how the C entry takes its lists and gives the flows back.
 //
-// `read_numbers` fills a list of numbers out of bytes, `write_numbers` writes one out, and `write_zeros` a list of zeros;
+// `read_lists` fills two lists of numbers out of bytes, `write_numbers` writes one out, and `write_zeros` a list of zeros;
 // what is behind the written bytes stays as it was.
 use codec::number_at;
 use codec::put_number;
@@ -9,17 +9,19 @@ ghost use mathlib.Core.Bool.{true};
 ghost use mathlib.Core.List.{_++_};
 ghost use Prim.Native.Nat.{_+_, _*_, _≤_};
 ghost use lib.ListN.{length, drop, replicate};
-ghost use Rattle.lists.specs.Numbers.{numbers, allBytes};
+ghost use Rattle.lists.specs.Numbers.{numbers, allBytes, Readable};
 ghost use Rattle.lists.specs.Inside.{written, Writable, Zeros};
 
-// Fills a list with the first numbers of a list of bytes.
-pub fn read_numbers(bytes: &[u8], list: &mut [u64])
-    requires { ⌜ 8 * length (now list) ≤ length (now bytes) ⌝ }
-    ensures { λ _. ⌜ now (list .exit) ≡ numbers (length (now (list .entry))) (now (bytes .entry)) ⌝ }
+// Fills two lists of one length with the first numbers of two lists of bytes.
+pub fn read_lists(rows: &[u8], costs: &[u8], row_list: &mut [u64], cost_list: &mut [u64])
+    requires { ⌜ Readable (now rows) (now costs) (now «row_list») (now «cost_list») ⌝ }
+    ensures { λ _. ⌜ now («row_list» .exit) ≡ numbers (length (now («row_list» .entry))) (now (rows .entry)) ⌝ }
+    ensures { λ _. ⌜ now («cost_list» .exit) ≡ numbers (length (now («cost_list» .entry))) (now (costs .entry)) ⌝ }
 {
     let mut i = 0;
-    while i < list.len() {
-        list[i] = number_at(bytes, 8 * i);
+    while i < row_list.len() {
+        row_list[i] = number_at(rows, 8 * i);
+        cost_list[i] = number_at(costs, 8 * i);
         i += 1;
     }
 }

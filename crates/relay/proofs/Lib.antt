@@ -1,3 +1,2 @@
-pub mod FaultLaws
-pub mod EnteredLaws
-pub mod SizeLaws
+mod StartLaws
+mod SizeLaws

@@ -2,7 +2,6 @@
 -- Assumes nothing.
 --
 --   front            the first m of N zeros are m zeros; front-length: they are m
---   square-under     n × n is at most k × k
 --   lent             the parts for n jobs are what the start of a call asks
 --   prefix           the first places of a list whose front was lent are that front; prefix-under, prefix-length
 --   read-length      behind a start with a ring there are n rows and n costs
@@ -12,17 +11,16 @@ use mathlib.Core.Path.{_≡_, refl, sym, ap, _∙_, subst}
 use mathlib.Core.Logic.{_≢_}
 use mathlib.Core.List.{List, _∷_, _++_}
 use Prim.Native.Nat.{ℕ, zero, suc, _*_, _/_, _≤_}
-use native.Mathlib.Nat.{mul-le-mul}
 use native.Mathlib.Omega.{arith}
 use lib.ListN.{length, take, replicate, length-append, length-replicate}
 use lib.Seq.{take-at}
 use Rattle.verdict.specs.Called.{Ringed}
-use Rattle.relay.specs.Faults.{Sized}
-use Rattle.relay.specs.Entered.{Entered}
+use Rattle.bytewise.specs.Faults.{Sized}
+use Rattle.bytewise.specs.Entered.{Entered}
 use Rattle.relay.specs.Inside.{Lent, Started, Opened}
 use Rattle.relay.specs.Inside.Started.{over, ahead}
-use Rattle.relay.proofs.FaultLaws.{count}
-use Rattle.relay.proofs.EnteredLaws.{started-same, started-ringed, entered-opened}
+use Rattle.bytewise.proofs.FaultLaws.{count}
+use Rattle.relay.proofs.StartLaws.{started-same, started-ringed, entered-opened}
 
 pub front : (N m : ℕ) → m ≤ N → take {A = ℕ} m (replicate N 0) ≡ replicate m 0
 front N zero l = refl
@@ -31,9 +29,6 @@ front (suc N) (suc m) l = ap (λ (z : List ℕ). 0 ∷ z) (front N m (omega arit
 
 pub front-length : (N m : ℕ) → m ≤ N → m ≡ length {A = ℕ} (take m (replicate N 0))
 front-length N m l = sym (ap length (front N m l) ∙ length-replicate m 0)
-
-pub square-under : (n k : ℕ) → n ≤ k → n * n ≤ k * k
-square-under n k l = mul-le-mul l l
 
 pub lent : (rows costs work answer : List ℕ) (n k : ℕ) → Sized rows costs (length work) (length answer) n k
     → Lent rows costs (take n (replicate k 0)) (take n (replicate k 0)) work answer

@@ -18,9 +18,9 @@ use Rattle.verdict.specs.declared.Decision.{Decision}
 use Rattle.verdict.specs.declared.Answer.the-variants.{Decided}
 use Rattle.checks.specs.Refusals.{Faultless}
 use Rattle.verdict.specs.Called.{Called}
-use Rattle.reply.specs.Replied.{frameOf}
-use Rattle.relay.specs.Faults.{Shaped}
-use Rattle.relay.specs.Entered.{Entered}
+use Rattle.framed.specs.Framed.{frameOf}
+use Rattle.bytewise.specs.Faults.{Shaped}
+use Rattle.bytewise.specs.Entered.{Entered}
 
 pub record Lent (rows costs rowList costList work answer : List ℕ) : Type 0 where
   pub shape : Shaped rows costs (length work) (length answer)

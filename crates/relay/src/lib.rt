@@ -10,9 +10,9 @@ ghost use Prim.Native.Nat.{_*_, _≤_};
 ghost use lib.ListN.{length, drop};
 ghost use Rattle.codec.specs.Frame.{answerBytes};
 ghost use Rattle.verdict.specs.Called.{Ringed};
-ghost use Rattle.reply.specs.Replied.{frameOf};
-ghost use Rattle.relay.specs.Faults.{Sized};
-ghost use Rattle.relay.specs.Entered.{Entered};
+ghost use Rattle.framed.specs.Framed.{frameOf};
+ghost use Rattle.bytewise.specs.Faults.{Sized};
+ghost use Rattle.bytewise.specs.Entered.{Entered};
 ghost use Rattle.relay.specs.Inside.{Lent, Started, Opened};
 
 // Writes the answer frame of a decision.
@@ -20,7 +20,7 @@ fn give(d: Decision, answer: &mut [u8])
     requires { ⌜ 22 ≤ length (now answer) ⌝ }
     ensures { λ _. ⌜ now (answer .exit) ≡ answerBytes (frameOf d) ++ drop 22 (now (answer .entry)) ⌝ }
 {
-    codec::put_answer(reply::answer_frame(d), answer);
+    codec::put_answer(framed::answer_frame(d), answer);
 }
 
 // How a call starts: answered, with x 0, or with a ring through T, x being X.
@@ -43,8 +43,7 @@ fn start(
     ensures { λ r. ⌜ Started (now (rows .entry)) (now (costs .entry)) t (now (work .entry)) (now (answer .entry)) (now («row_list» .exit)) (now («cost_list» .exit)) (r .refusal) (r .x) (now (work .exit)) (now (answer .exit)) ⌝ }
 {
     let n = row_list.len();
-    lists::read_numbers(rows, row_list);
-    lists::read_numbers(costs, cost_list);
+    lists::read_lists(rows, costs, row_list, cost_list);
     let k = checks::refusal(row_list, cost_list, t, n * n);
     if k != 0 {
         return Opening { refusal: k, x: 0 };

@@ -17,7 +17,7 @@ use Rattle.bits.specs.Mask.{Has}
 use Rattle.sums.specs.Sum.{sum}
 use Rattle.graph.specs.Waits.{waits}
 use Rattle.graph.proofs.WaitLaws.{waits-has, waits-below}
-use Rattle.flow.specs.Accepted.{costAt}
+use Rattle.network.specs.Costs.{costAt}
 use Rattle.verdict.specs.declared.Decision.{Decision}
 use Rattle.verdict.specs.declared.Answer.{Answer}
 use Rattle.verdict.specs.declared.Answer.the-variants.{Refused, Decided}

@@ -3,7 +3,6 @@
 --
 --   line-unique                 there is one line for a text
 --   reply-unique                two results of the text function are equal
---   answer-frame-unique         and so are two answer frames of a decision
 --   reply-refused, reply-answered   the two ways in which a line is written
 --   reply-within                the line is in the list
 use mathlib.Core.Path.{_≡_, refl, sym, ap, _∙_, subst}
@@ -13,8 +12,7 @@ use native.Mathlib.Omega.{arith}
 use lib.ListN.{length, getD, drop, length-append}
 use lib.Seq.{ext-getD}
 use Rattle.graph.specs.Waits.{waits}
-use Rattle.flow.specs.Accepted.{costAt}
-use Rattle.verdict.specs.declared.Decision.{Decision}
+use Rattle.network.specs.Costs.{costAt}
 use Rattle.verdict.specs.Answers.{Verdict}
 use Rattle.checks.proofs.RefusalLaws.{faultless-job, faultless-apart, faultless-positive}
 use Rattle.verdict.proofs.AnswerLaws.{verdict-unique}
@@ -28,7 +26,7 @@ use Rattle.reader.specs.declared.Snapshot.{Snapshot}
 use Rattle.reader.specs.Snapshots.{IsRead}
 use Rattle.reader.proofs.FillLaws.{row-unique, cost-unique}
 use Rattle.lines.specs.Lines.{answerLine, refusalLine}
-use Rattle.reply.specs.Replied.{frameOf, Given, LineOf, Replied}
+use Rattle.reply.specs.Replied.{Given, LineOf, Replied}
 use Rattle.reply.specs.Replied.LineOf.{refuses, answers}
 use Rattle.reply.specs.Replied.Replied.{short, written}
 use Rattle.reply.proofs.GivenLaws.{given-faultless}
@@ -88,6 +86,3 @@ reply-answered text before after rows costs a ok G y l e =
 pub reply-within : (text before : List ℕ) (r : ℕ) (after : List ℕ) → Replied text before r after → r ≤ length after
 reply-within text before r after (short l) = zero-le
 reply-within text before r after (written l line L) = omega (arith, length-append line (drop (length line) before))
-
-pub answer-frame-unique : (d : Decision) (a b : Answer) → a ≡ frameOf d → b ≡ frameOf d → a ≡ b
-answer-frame-unique d a b p q = p ∙ sym q

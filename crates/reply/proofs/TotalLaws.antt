@@ -21,7 +21,7 @@ use Rattle.walks.proofs.Distance.{tab, getD-tab}
 use Rattle.graph.specs.Waits.{waits}
 use Rattle.graph.specs.Pools.{blocks, stateAt, WaitsFor}
 use Rattle.graph.proofs.PoolLaws.{Met, met-end}
-use Rattle.flow.specs.Accepted.{costAt}
+use Rattle.network.specs.Costs.{costAt}
 use Rattle.checks.proofs.RefusalLaws.{faultless-few, faultless-job, faultless-apart}
 use Rattle.verdict.proofs.ExistsLaws.{verdict-exists}
 use Rattle.frames.specs.declared.Refusal.{Refusal}

@@ -2,27 +2,12 @@
 //
 // `reply` takes any text and writes the line that answers it, an answer or a refusal, at the front of a lent list of 45 places or more;
 // it returns how long the line is, and leaves the rest of the list as it was. A shorter list gets 0 and nothing written.
-// `answer_frame` is the frame that says a verdict.
-ghost use mathlib.Core.Path.{_≡_};
 ghost use lib.ListN.{length};
 ghost use Rattle.graph.specs.Waits.{waits};
-ghost use Rattle.flow.specs.Accepted.{costAt};
+ghost use Rattle.network.specs.Costs.{costAt};
 ghost use Rattle.checks.specs.Refusals.{Faultless};
 ghost use Rattle.verdict.specs.Answers.{Verdict};
-ghost use Rattle.reply.specs.Replied.{frameOf, Replied};
-
-// The answer frame of a verdict.
-pub fn answer_frame(d: verdict::Decision) -> frames::Answer
-    ensures { λ r. ⌜ r ≡ frameOf d ⌝ }
-{
-    let outcome = d.outcome;
-    frames::Answer::new(
-        verdict::outcome_number(outcome),
-        d.price,
-        d.rounds,
-        d.victims,
-    )
-}
+ghost use Rattle.reply.specs.Replied.{Replied};
 
 // The verdict on jobs without faults.
 fn decide(rows: &[u64], costs: &[u64], t: usize, allowance: u32) -> frames::Answer
@@ -33,7 +18,7 @@ fn decide(rows: &[u64], costs: &[u64], t: usize, allowance: u32) -> frames::Answ
     let answer = verdict::verdict(rows, costs, t, allowance, &mut work);
     match answer {
         verdict::Answer::Refused(k) => frames::Answer::new(k, 0, 0, 0),
-        verdict::Answer::Decided(d) => answer_frame(d),
+        verdict::Answer::Decided(d) => framed::answer_frame(d),
     }
 }
 

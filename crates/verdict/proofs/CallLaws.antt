@@ -26,7 +26,7 @@ use Rattle.network.specs.Arcs.{inn, out, within, waitCount}
 use Rattle.network.specs.Sets.{Exactly}
 use Rattle.network.proofs.RoundLaws.{rounds-unique}
 use Rattle.network.proofs.SetLaws.{exactly-unique, inX}
-use Rattle.flow.specs.Accepted.{costAt}
+use Rattle.network.specs.Costs.{costAt}
 use Rattle.verdict.specs.declared.Outcome.{Outcome}
 use Rattle.verdict.specs.declared.Outcome.the-variants.{Wait, AbortT, AbortOthers, NotYet}
 use Rattle.verdict.specs.declared.Decision.{Decision}

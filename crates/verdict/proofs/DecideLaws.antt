@@ -36,7 +36,8 @@ use Rattle.network.specs.Sets.{Exactly, Best, price}
 use Rattle.network.proofs.ArcLaws.{net-unused}
 use Rattle.network.proofs.SinkSide.{Crossing}
 use Rattle.network.proofs.BestLaws.{crossing-best, best-price}
-use Rattle.flow.specs.Accepted.{costAt, Accepted}
+use Rattle.network.specs.Costs.{costAt}
+use Rattle.flow.specs.Accepted.{Accepted}
 use Rattle.sheet.specs.Cleared.{Cleared}
 use Rattle.flow.specs.Flowed.{Side, Ends, Flowed}
 use Rattle.flow.specs.Flowed.Ends.{settled, unfinished as ends-unfinished}

@@ -34,7 +34,7 @@ use Rattle.network.specs.Sets.{price}
 use Rattle.network.proofs.SetLaws.{inX, inx-exact}
 use Rattle.network.proofs.BestLaws.{sinkSet}
 use Rattle.network.proofs.Computed.{ringed, ringed-right, run, Ran, run-right, run-best, unreached-stuck}
-use Rattle.flow.specs.Accepted.{costAt}
+use Rattle.network.specs.Costs.{costAt}
 use Rattle.verdict.specs.Answers.{After, Victims, Verdict}
 use Rattle.verdict.specs.Answers.Verdict.{stays, itself, others, unfinished}
 use Rattle.verdict.specs.Worked.{Case, Right, All, table}

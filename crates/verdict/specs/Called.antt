@@ -13,7 +13,7 @@ use Rattle.graph.specs.Waits.{waits}
 use Rattle.graph.specs.Rings.{InX, RingThrough}
 use Rattle.network.specs.Rooms.{Room}
 use Rattle.network.specs.Arcs.{flowOn, within}
-use Rattle.flow.specs.Accepted.{costAt}
+use Rattle.network.specs.Costs.{costAt}
 use Rattle.verdict.specs.declared.Decision.{Decision}
 use Rattle.verdict.specs.declared.Answer.{Answer}
 use Rattle.verdict.specs.declared.Answer.the-variants.{Refused, Decided}

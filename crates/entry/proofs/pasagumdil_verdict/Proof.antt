@@ -2,11 +2,10 @@
 use native.Mathlib.Omega.{arith}
 use mathlib.Core.Path.{refl}
 use lib.ListN.{length}
-use Rattle.relay.specs.Faults.{Shaped}
-use Rattle.relay.specs.Faults.EntryFault.{brokenRows, narrow}
-use Rattle.relay.proofs.FaultLaws.{passed-1, passed-2, passed-3, shaped, fault-empty, fault-crowded, fault-uneven, fault-short}
-use Rattle.relay.proofs.EnteredLaws.{refused-byte}
-use Rattle.relay.proofs.SizeLaws.{square-under}
+use Rattle.bytewise.specs.Faults.{Shaped}
+use Rattle.bytewise.specs.Faults.EntryFault.{brokenRows, narrow}
+use Rattle.bytewise.proofs.FaultLaws.{square-under, passed-1, passed-2, passed-3, shaped, fault-empty, fault-crowded, fault-uneven, fault-short}
+use Rattle.bytewise.proofs.EnteredLaws.{refused-byte}
 use Rattle.entry.proofs.pasagumdil_verdict.Statement.{statement}
 use Rattle.entry.proofs.pasagumdil_verdict.Tie as tie
 

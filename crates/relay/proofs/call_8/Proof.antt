@@ -2,8 +2,9 @@
 use borrow.Author.Needs.{needs}
 use native.Mathlib.Omega.{arith}
 use lib.ListN.{drop, replicate}
-use Rattle.relay.proofs.EnteredLaws.{started-over}
-use Rattle.relay.proofs.SizeLaws.{front, front-length, square-under, lent, prefix, prefix-under, prefix-length, read-length, call-ready, call-opened}
+use Rattle.bytewise.proofs.FaultLaws.{square-under}
+use Rattle.relay.proofs.StartLaws.{started-over}
+use Rattle.relay.proofs.SizeLaws.{front, front-length, lent, prefix, prefix-under, prefix-length, read-length, call-ready, call-opened}
 use Rattle.relay.proofs.call_8.Statement.{statement}
 use Rattle.relay.proofs.call_8.Tie as tie
 

@@ -1,6 +1,6 @@
 -- `relay::give`: the answer frame of the decision, and its bytes.
 use borrow.Author.Needs.{needs}
-use Rattle.relay.proofs.EnteredLaws.{given}
+use Rattle.relay.proofs.StartLaws.{given}
 use Rattle.relay.proofs.give.Statement.{statement}
 use Rattle.relay.proofs.give.Tie as tie
 

@@ -11,8 +11,8 @@ use Rattle.lists.specs.Numbers.{numbersOf, allBytes}
 use Rattle.verdict.specs.declared.Decision.{Decision}
 use Rattle.verdict.specs.declared.Answer.the-variants.{Decided}
 use Rattle.verdict.specs.Called.{Called}
-use Rattle.reply.specs.Replied.{frameOf}
-use Rattle.relay.specs.Faults.{EntryRefusal, EntryFaultless}
+use Rattle.framed.specs.Framed.{frameOf}
+use Rattle.bytewise.specs.Faults.{EntryRefusal, EntryFaultless}
 
 pub data Entered (rows costs : List ℕ) (τ allowance : ℕ) (work answer : List ℕ) : ℕ → List ℕ → List ℕ → Type 0 where
   -- "A refusal returns its number; all lent lists stay unwritten."

@@ -2,6 +2,7 @@
 -- Assumes nothing.
 --
 --   count                    n, the number of rows: the numbers of a list of bytes are an eighth of them
+--   square-under             n × n is at most k × k
 --   refusal-unique           no two refusals are due
 --   Passed .. m              the byte checks of the refusals before m were passed, m at most 3
 --   passed-1 .. passed-3     one check more
@@ -13,7 +14,7 @@ use mathlib.Core.Path.{_≡_, refl, sym, ap, _∙_, subst}
 use mathlib.Core.Logic.{_≢_}
 use mathlib.Core.List.{List}
 use Prim.Native.Nat.{ℕ, suc, _*_, _/_, _%_, _<_, _≤_}
-use native.Mathlib.Nat.{le-refl}
+use native.Mathlib.Nat.{le-refl, mul-le-mul}
 use native.Mathlib.Omega.{arith}
 use native.Mathlib.Decide.{ℕ-discrete, decLt}
 use lib.ListN.{length}
@@ -22,11 +23,14 @@ use Rattle.lists.proofs.ReadLaws.{numbers-length}
 use Rattle.checks.specs.Refusals.{Fault, Refusal, Faultless}
 use Rattle.checks.specs.Refusals.Fault.{empty, crowded, uneven, short, stray, looped, absent, free, dear, heavy}
 use Rattle.checks.proofs.RefusalLaws.{fault-range}
-use Rattle.relay.specs.Faults.{EntryFault, EntryRefusal, EntryFaultless, Shaped}
-use Rattle.relay.specs.Faults.EntryFault.{brokenRows, brokenCosts, narrow, ofNumbers}
+use Rattle.bytewise.specs.Faults.{EntryFault, EntryRefusal, EntryFaultless, Shaped}
+use Rattle.bytewise.specs.Faults.EntryFault.{brokenRows, brokenCosts, narrow, ofNumbers}
 
 pub count : (bytes : List ℕ) → length (numbersOf bytes) ≡ length bytes / 8
 count bytes = numbers-length (length bytes / 8) bytes
+
+pub square-under : (n k : ℕ) → n ≤ k → n * n ≤ k * k
+square-under n k l = mul-le-mul l l
 
 -- where there is room for n × n flows, how much room there is does not matter
 fault-room : (rows costs : List ℕ) (τ w w′ k : ℕ) → length rows * length rows ≤ w → Fault rows costs τ w k → Fault rows costs τ w′ k

@@ -1,10 +1,10 @@
--- `reply::answer_frame` meets its contract. Assumes nothing.
+-- `framed::answer_frame` meets its contract. Assumes nothing.
 use borrow.Author.Needs.{needs}
 use mathlib.Core.Path.{ap, _∙_}
 use Prim.Native.Nat.{ℕ}
 use Rattle.frames.specs.Records.{answered}
-use Rattle.reply.proofs.answer_frame.Statement.{statement}
-use Rattle.reply.proofs.answer_frame.Tie as tie
+use Rattle.framed.proofs.answer_frame.Statement.{statement}
+use Rattle.framed.proofs.answer_frame.Tie as tie
 
 outcome-number-requires : tie.Need-outcome-number-requires
 outcome-number-requires c κs = search needs

@@ -1,11 +1,9 @@
--- The whole statement of the C entry: two results that meet it are equal, and how a call comes by it.
+-- How a call on bytes starts, and what its start and its rounds leave.
 -- Assumes nothing.
 --
---   entry-unique      two results of a call are equal, and so are the lists that it leaves; on all inputs
---   refused-byte      a byte fault is refused
 --   still             the decision of a wait
 --   given             the bytes of an answer frame
---   read-rows, read-costs, read-count, lent-few, lent-room   the lists that were read, and their room
+--   read-rows, read-costs, read-count, lent-readable, lent-few, lent-room   the lists that were read, and their room
 --   started-refused, started-waits, started-ahead   the three ways in which a call starts
 --   started-over, started-ringed, started-same      what a start leaves, by whether x is 0
 --   entered-opened    the rounds, written out, are an answer of the entry
@@ -23,51 +21,25 @@ use Rattle.graph.specs.Waits.{waits}
 use Rattle.graph.specs.Rings.{Ring, InX, RingThrough}
 use Rattle.frames.specs.declared.Answer.{Answer as Frame}
 use Rattle.codec.specs.Frame.{answerBytes}
-use Rattle.lists.specs.Numbers.{numbers, numbersOf, allBytes}
+use Rattle.lists.specs.Numbers.{numbers, numbersOf, allBytes, Readable}
 use Rattle.lists.proofs.ReadLaws.{numbers-length}
 use Rattle.verdict.specs.declared.Outcome.the-variants.{Wait}
 use Rattle.verdict.specs.declared.Decision.{Decision}
-use Rattle.verdict.specs.declared.Answer.{Answer}
 use Rattle.verdict.specs.declared.Answer.the-variants.{Decided}
 use Rattle.checks.specs.Refusals.{Refusal, Faultless, Due}
 use Rattle.verdict.specs.Called.{Ringed, Called}
 use Rattle.checks.proofs.RefusalLaws.{due-refused}
 use Rattle.verdict.proofs.DecideLaws.{through-none, decide-waits}
-use Rattle.verdict.proofs.CallLaws.{call-unique}
-use Rattle.reply.specs.Replied.{frameOf}
-use Rattle.relay.specs.Faults.{EntryFault, Shaped}
-use Rattle.relay.specs.Entered.{Entered}
-use Rattle.relay.specs.Entered.Entered.{refuses, answers}
+use Rattle.framed.specs.Framed.{frameOf}
+use Rattle.bytewise.specs.Faults.{Shaped}
+use Rattle.bytewise.specs.Entered.{Entered}
+use Rattle.bytewise.proofs.EnteredLaws.{square, OnNumbers, refused-number, entered-given}
 use Rattle.relay.specs.Inside.{Lent, Started, Opened}
 use Rattle.relay.specs.Inside.Started.{over, ahead}
-use Rattle.relay.proofs.FaultLaws.{count, Passed, refusal-unique, refuse-byte, refuse-number, shaped-faultless}
 
 -- "wait", with no round
 abbrev pub still : Decision
 still = record { outcome = Wait; price = 0; rounds = 0; victims = 0 }
-
--- how many flows there are
-abbrev pub square : List ℕ → ℕ
-square rows = length (numbersOf rows) * length (numbersOf rows)
-
--- the verdict call that the statement names
-abbrev pub OnNumbers : List ℕ → List ℕ → ℕ → ℕ → Answer → List ℕ → Type 0
-OnNumbers rows costs τ allowance x after = Called (numbersOf rows) (numbersOf costs) τ allowance (replicate (square rows) 0) x after
-
-module _ (rows costs : List ℕ) (τ allowance : ℕ) (work answer : List ℕ) where
-  pub entry-unique : (j k : ℕ) (w w′ a a′ : List ℕ) → Entered rows costs τ allowance work answer j w a → Entered rows costs τ allowance work answer k w′ a′
-      → (j ≡ k) × (w ≡ w′) × (a ≡ a′)
-  entry-unique j k w w′ a a′ (refuses m r) (refuses n s) = (refusal-unique rows costs τ (length work) (length answer) m n r s, refl, refl)
-  entry-unique j k w w′ a a′ (refuses m r) (answers e flows g c) = absurd (g m (r .fault))
-  entry-unique j k w w′ a a′ (answers d flows f b) (refuses n s) = absurd (f n (s .fault))
-  entry-unique j k w w′ a a′ (answers d flows f b) (answers e flows′ g c) =
-      let q = call-unique (numbersOf rows) (numbersOf costs) τ allowance (replicate (square rows) 0) (Decided d) (Decided e) flows flows′ b c in
-      let p : d ≡ e = cc (q .0) in
-      (refl, ap (λ (z : List ℕ). allBytes z ++ drop (8 * length z) work) (q .1), ap (λ (z : Decision). answerBytes (frameOf z) ++ drop 22 answer) p)
-
-  -- a byte fault found after the checks before it is the refusal that is due, and nothing was written
-  pub refused-byte : (m : ℕ) → Passed rows costs m → EntryFault rows costs τ (length work) (length answer) m → Entered rows costs τ allowance work answer m work answer
-  refused-byte m P f = refuses m (refuse-byte rows costs τ (length work) (length answer) m P f)
 
 -- ---- the call on the numbers, behind the byte checks
 
@@ -83,6 +55,13 @@ module _ (rows costs : List ℕ) (τ : ℕ) (work answer : List ℕ) where
     pub read-count : (r : List ℕ) → r ≡ numbers (length rowList) rows → length rowList ≡ length r
     read-count r e = sym (ap length e ∙ numbers-length (length rowList) rows)
 
+    pub lent-readable : Readable rows costs rowList costList
+    lent-readable = record {
+      even = L .costPlaces ∙ sym (L .rowPlaces);
+      rowBytes = omega (arith, L .rowPlaces);
+      costBytes = omega (arith, L .costPlaces, L .shape .priced);
+    }
+
     pub lent-few : length rowList ≤ 64
     lent-few = omega (arith, L .rowPlaces, L .shape .few)
 
@@ -90,20 +69,14 @@ module _ (rows costs : List ℕ) (τ : ℕ) (work answer : List ℕ) where
     lent-room = let e = ap (λ (z : ℕ). z * z) (L .rowPlaces) in omega (arith, e, L .shape .room)
 
   module _ (S : Shaped rows costs (length work) (length answer)) where
-    -- a decision on the numbers, written out, is an answer of the entry
-    entered-given : (allowance : ℕ) (d : Decision) (after w a : List ℕ) → Faultless (numbersOf rows) (numbersOf costs) τ (square rows)
-        → OnNumbers rows costs τ allowance (Decided d) after → w ≡ allBytes after ++ drop (8 * length after) work → a ≡ answerBytes (frameOf d) ++ drop 22 answer
-        → Entered rows costs τ allowance work answer 0 w a
-    entered-given allowance d after w a F C p q = rw (p, q) (answers d after (shaped-faultless rows costs τ (length work) (length answer) S F) C)
-
     module _ (r c : List ℕ) (p : r ≡ numbersOf rows) (q : c ≡ numbersOf costs) where
       -- what is true of the lists that were read is true of the numbers
       on-numbers : (P : List ℕ → List ℕ → Type 0) → P r c → P (numbersOf rows) (numbersOf costs)
       on-numbers P h = subst (P (numbersOf rows)) q (subst (λ (l : List ℕ). P l c) p h)
 
       pub started-refused : (k n : ℕ) → n ≡ length r → Due r c τ (n * n) k → k ≢ 0 → Started rows costs τ work answer r c k 0 work answer
-      started-refused k n e D ne = over k work answer (λ allowance. refuses k (refuse-number rows costs τ (length work) (length answer) S k
-          (on-numbers (λ a b. Refusal a b τ (length a * length a) k) (subst (λ (z : ℕ). Refusal r c τ (z * z) k) e (due-refused r c τ (n * n) k D ne)))))
+      started-refused k n e D ne = over k work answer (λ allowance. refused-number rows costs τ allowance work answer S k
+          (on-numbers (λ a b. Refusal a b τ (length a * length a) k) (subst (λ (z : ℕ). Refusal r c τ (z * z) k) e (due-refused r c τ (n * n) k D ne))))
 
       module _ (x n : ℕ) (b : Bool) (e : n ≡ length r) (F : Faultless r c τ (n * n)) (X : MaskOf (InX (waits r) (length r) τ) x) (R : RingThrough (waits r) (length r) τ b) where
         faultless : Faultless (numbersOf rows) (numbersOf costs) τ (square rows)
@@ -114,7 +87,7 @@ module _ (rows costs : List ℕ) (τ : ℕ) (work answer : List ℕ) where
 
         pub started-waits : (w a : List ℕ) → b ≡ false → w ≡ allBytes (replicate (n * n) 0) ++ drop (8 * (n * n)) work → a ≡ answerBytes (frameOf still) ++ drop 22 answer
             → Started rows costs τ work answer r c 0 0 w a
-        started-waits w a f u v = over 0 w a (λ allowance. entered-given allowance still (replicate (square rows) 0) w a faultless (waiting allowance) bytes v)
+        started-waits w a f u v = over 0 w a (λ allowance. entered-given rows costs τ allowance work answer S still (replicate (square rows) 0) w a faultless (waiting allowance) bytes v)
           where
             none : (l : List ℕ) → Ring (waits (numbersOf rows)) (length (numbersOf rows)) τ l → ⊥
             none = subst (λ (z : List ℕ). (l : List ℕ) → Ring (waits z) (length z) τ l → ⊥) p (through-none (waits r) (length r) τ b R f)
@@ -137,7 +110,7 @@ module _ (rows costs : List ℕ) (τ : ℕ) (work answer : List ℕ) where
         → flows ≡ replicate (length r * length r) 0 → Opened r c τ allowance flows w a w′ a′ → Entered rows costs τ allowance work answer 0 w′ a′
     entered-opened r c k x allowance flows w a w′ a′ (over j v b E) ne z O = absurd (ne refl)
     entered-opened r c k x allowance flows w a w′ a′ (ahead y p q F X R) ne z O =
-        entered-given allowance (O .decision) (O .after) w′ a′ (on-numbers r c p q (λ a b. Faultless a b τ (length a * length a)) F)
+        entered-given rows costs τ allowance work answer S (O .decision) (O .after) w′ a′ (on-numbers r c p q (λ a b. Faultless a b τ (length a * length a)) F)
         (on-numbers r c p q (λ a b. Called a b τ allowance (replicate (length a * length a) 0) (Decided (O .decision)) (O .after))
         (subst (λ (l : List ℕ). Called r c τ allowance l (Decided (O .decision)) (O .after)) z (O .called))) (O .flowBytes) (O .frame)
 
