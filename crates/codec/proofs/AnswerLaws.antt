@@ -9,7 +9,7 @@ use native.Mathlib.Nat.{div-one}
 use native.Mathlib.Omega.{arith}
 use lib.ListN.{length, take, drop, set, length-append}
 use lib.Seq.{sets-eq}
-use Rattle.text.proofs.SpellLaws.{part-next}
+use Rattle.digits.proofs.SpellLaws.{part-next}
 use Rattle.frames.specs.declared.Answer.{Answer}
 use Rattle.codec.specs.Bytes.{bytesOf}
 use Rattle.codec.specs.Frame.{answerBytes}

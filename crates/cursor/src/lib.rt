@@ -26,7 +26,7 @@ fn frame_fault(text: &[u8], at: usize, kind: u8, due: usize) -> u8
     if digits != due {
         return 11;
     }
-    if text::byte_at(text, at) != kind {
+    if digits::byte_at(text, at) != kind {
         return 11;
     }
     0

@@ -20,8 +20,8 @@ use Rattle.sums.specs.Tests.{any}
 use Rattle.sums.specs.Sum.{sum, count}
 use Rattle.sums.proofs.TestLaws.{T-eq, any-intro}
 use Rattle.sums.proofs.SumLaws.{gate-le}
-use Rattle.graph.specs.Pools.{isWaiting}
-use Rattle.text.specs.Digits.{byteAt}
+use Rattle.pools.specs.Pools.{isWaiting}
+use Rattle.digits.specs.Digits.{byteAt}
 use Rattle.cursor.specs.Order.{_then_, _when_}
 use Rattle.cursor.specs.Frame.{frameFault}
 use Rattle.cursor.proofs.OrderLaws.{then-first, then-second}

@@ -16,7 +16,7 @@ use native.Mathlib.Omega.{arith}
 use borrow.Author.Tests.{leb-true, leb-false, ltb-true, ltb-false, eqb-true, eqb-false, not-false}
 use lib.Dec.{leb, ltb, eqb}
 use lib.ListN.{length}
-use Rattle.text.specs.Tests.{between}
+use Rattle.digits.specs.Tests.{between}
 use Rattle.text.specs.Line.{lineAt}
 use Rattle.cursor.specs.Order.{_then_, _when_}
 use Rattle.cursor.proofs.OrderLaws.{then-zero, when-zero, frame-length}

@@ -103,7 +103,7 @@ fn state_above(text: &[u8], at: usize, s: usize) -> bool
 {
     let mut p = 0;
     while p < s {
-        if 2 < text::byte_at(text, at + 20 + 2 * p) {
+        if 2 < digits::byte_at(text, at + 20 + 2 * p) {
             return true;
         }
         p += 1;
@@ -119,7 +119,7 @@ pub fn waits_in(text: &[u8], at: usize, s: usize) -> usize
     let mut waits = 0;
     let mut p = 0;
     while p < s {
-        if text::byte_at(text, at + 20 + 2 * p) == 2 {
+        if digits::byte_at(text, at + 20 + 2 * p) == 2 {
             waits += 1;
         }
         p += 1;

@@ -5,7 +5,7 @@
 --   stateByte text at p     its state byte of pool p
 use mathlib.Core.List.{List}
 use Prim.Native.Nat.{ℕ, _+_, _*_}
-use Rattle.text.specs.Digits.{byteAt, number}
+use Rattle.digits.specs.Digits.{byteAt, number}
 use Rattle.frames.specs.declared.Header.{Header}
 use Rattle.frames.specs.declared.Job.{Job}
 

@@ -53,13 +53,13 @@ impl Header {
         ensures { λ r. ⌜ r ≡ headerAt (now (text .entry)) at ⌝ }
     {
         Self {
-            present: Ticks(text::number4(text, at + 2)),
-            a: text::number2(text, at + 10),
-            b: text::number2(text, at + 14),
-            n: text::byte_at(text, at + 18) as usize,
-            s: text::byte_at(text, at + 20) as usize,
-            t: text::byte_at(text, at + 22) as usize,
-            allowance: text::number4(text, at + 24),
+            present: Ticks(digits::number4(text, at + 2)),
+            a: digits::number2(text, at + 10),
+            b: digits::number2(text, at + 14),
+            n: digits::byte_at(text, at + 18) as usize,
+            s: digits::byte_at(text, at + 20) as usize,
+            t: digits::byte_at(text, at + 22) as usize,
+            allowance: digits::number4(text, at + 24),
         }
     }
 }
@@ -81,9 +81,9 @@ impl Job {
         ensures { λ r. ⌜ r ≡ jobAt (now (text .entry)) at ⌝ }
     {
         Self {
-            number: text::byte_at(text, at + 2) as usize,
-            issue: Ticks(text::number4(text, at + 4)),
-            operations: Operations(text::number4(text, at + 12)),
+            number: digits::byte_at(text, at + 2) as usize,
+            issue: Ticks(digits::number4(text, at + 4)),
+            operations: Operations(digits::number4(text, at + 12)),
         }
     }
 }

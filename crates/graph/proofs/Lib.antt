@@ -2,5 +2,4 @@ pub mod WaitLaws
 pub mod SeenLaws
 pub mod GatherLaws
 pub mod RingLaws
-pub mod PoolLaws
 pub mod Unique

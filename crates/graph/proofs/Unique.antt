@@ -1,8 +1,8 @@
 -- Two results that meet the statement of a public function are equal.
 -- Assumes nothing.
 --
---   rows-known-unique, reach-unique, gather-unique, on-rings-unique, ring-through-unique, row-unique   of the function of that name
---   reach-away                                                                    the jobs of `reach` are those a definite number of waits away
+--   rows-known-unique, reach-unique, gather-unique, on-rings-unique, ring-through-unique   of the function of that name
+--   reach-away                                                                             the jobs of `reach` are those a definite number of waits away
 use mathlib.Core.Path.{_≡_, refl}
 use mathlib.Core.Bool.{Bool, true, false}
 use mathlib.Core.List.{List}
@@ -18,7 +18,6 @@ use Rattle.graph.specs.Waits.Known.{all, stray}
 use Rattle.graph.specs.Rings.{InX, RingThrough}
 use Rattle.graph.specs.Rings.RingThrough.{some, none}
 use Rattle.graph.specs.Hits.{Hits}
-use Rattle.graph.specs.Pools.{WaitsFor}
 
 pub rows-known-unique : (rows : List ℕ) (a b : Bool) → Known rows a → Known rows b → a ≡ b
 rows-known-unique rows true true p q = refl
@@ -45,6 +44,3 @@ ring-through-unique rows t true true p q = refl
 ring-through-unique rows t true false (some p r) (none q) = absurd (q p r)
 ring-through-unique rows t false true (none q) (some p r) = absurd (q p r)
 ring-through-unique rows t false false p q = refl
-
-pub row-unique : (states : List ℕ) (n s j a b : ℕ) → MaskOf (WaitsFor states n s j) a → MaskOf (WaitsFor states n s j) b → a ≡ b
-row-unique states n s j a b = mask-unique _ a b

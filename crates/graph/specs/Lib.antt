@@ -1,4 +1,3 @@
 pub mod Waits
 pub mod Rings
 pub mod Hits
-pub mod Pools

@@ -1,8 +1,8 @@
-// The graph layer: who waits for whom, whom a job reaches, and the rings through a job.
+// The graph layer over rows: whom a job reaches along waits, and the rings through a job.
 //
 // `rows_known` says whether the rows name only jobs that are there, `reach` gives exactly the jobs that a job reaches along waits,
-// `gather` exactly those of a set of jobs whose masks name a marked job, `on_rings` exactly the document's X, `ring_through` whether a ring passes through a job,
-// and `row` exactly the jobs that a job waits for in a table of pool states.
+// `gather` exactly those of a set of jobs whose masks name a marked job, `on_rings` exactly the document's X,
+// and `ring_through` whether a ring passes through a job.
 ghost use Prim.Native.Nat.{_<_, _≤_};
 ghost use lib.ListN.{length};
 ghost use Rattle.bits.specs.Mask.{MaskOf};
@@ -10,7 +10,6 @@ ghost use Rattle.walks.specs.Walk.{Reaches};
 ghost use Rattle.graph.specs.Waits.{waits, Jobs, Known};
 ghost use Rattle.graph.specs.Rings.{InX, RingThrough};
 ghost use Rattle.graph.specs.Hits.{Gatherable, Hits};
-ghost use Rattle.graph.specs.Pools.{Table, ActiveAt, WaitsFor};
 
 // Whether no row names a job past the end of the list.
 pub fn rows_known(rows: &[u64]) -> bool
@@ -91,40 +90,4 @@ pub fn ring_through(rows: &[u64], t: usize, x: u64) -> bool
         return true;
     }
     false
-}
-
-const ACTIVE: u8 = 1;
-
-const WAITING: u8 = 2;
-
-// The jobs that are active at a pool.
-fn active_at(states: &[u8], n: usize, pools: usize, pool: usize) -> u64
-    requires { ⌜ Table (now states) n pools × (pool < pools) ⌝ }
-    ensures { λ r. ⌜ MaskOf (ActiveAt (now (states .entry)) n pools pool) r ⌝ }
-{
-    let mut mask = 0u64;
-    let mut i = 0;
-    while i < n {
-        if states[i * pools + pool] == ACTIVE {
-            mask |= 1u64 << i;
-        }
-        i += 1;
-    }
-    mask
-}
-
-// The row of `job`: the jobs that it waits for, out of the states of n jobs at `pools` pools.
-pub fn row(states: &[u8], n: usize, pools: usize, job: usize) -> u64
-    requires { ⌜ Table (now states) n pools × (job < n) ⌝ }
-    ensures { λ r. ⌜ MaskOf (WaitsFor (now (states .entry)) n pools job) r ⌝ }
-{
-    let mut mask = 0u64;
-    let mut p = 0;
-    while p < pools {
-        if states[job * pools + p] == WAITING {
-            mask |= active_at(states, n, pools, p);
-        }
-        p += 1;
-    }
-    mask
 }

@@ -9,8 +9,8 @@ use Prim.Native.Nat.{ℕ, suc, _+_, _<_, _≤_}
 use native.Mathlib.Omega.{arith}
 use lib.ListN.{length, getD, take, drop, set, length-append}
 use lib.Seq.{drop-cons, set-at, append-snoc}
-use Rattle.text.specs.Spell.{spell}
-use Rattle.text.proofs.SpellLaws.{part-next, spell-length}
+use Rattle.digits.specs.Spell.{spell}
+use Rattle.digits.proofs.SpellLaws.{part-next, spell-length}
 use Rattle.frames.specs.declared.Answer.{Answer}
 use Rattle.frames.specs.declared.Refusal.{Refusal}
 use Rattle.frames.specs.Kinds.{answerDigits, refusalDigits}

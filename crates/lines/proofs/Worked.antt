@@ -5,7 +5,7 @@
 --   missing-line     11 at line 1, the refusal of an empty text
 use mathlib.Core.Path.{_≡_, refl}
 use mathlib.Core.List.{List, [], _∷_, _++_}
-use Rattle.text.specs.Spell.{spelt, spell}
+use Rattle.digits.specs.Spell.{spelt, spell}
 use Rattle.frames.specs.Records.{answered, refused}
 use Rattle.lines.specs.Lines.{answerLine, refusalLine}
 

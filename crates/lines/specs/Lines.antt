@@ -4,7 +4,7 @@
 --   refusalLine r    "Refusal, 8 digits: 0F, number (1), line (2)"
 use mathlib.Core.List.{List, [], _∷_, _++_}
 use Prim.Native.Nat.{ℕ}
-use Rattle.text.specs.Spell.{spell}
+use Rattle.digits.specs.Spell.{spell}
 use Rattle.frames.specs.declared.Answer.{Answer}
 use Rattle.frames.specs.declared.Refusal.{Refusal}
 use Rattle.frames.specs.Kinds.{answerKind, refusalKind}

@@ -15,11 +15,11 @@ pub fn write_answer(a: Answer, out: &mut [u8])
     requires { ⌜ answerDigits + 1 ≤ length (now out) ⌝ }
     ensures { λ _. ⌜ now (out .exit) ≡ answerLine a ++ drop (answerDigits + 1) (now (out .entry)) ⌝ }
 {
-    text::put_digits(out, 0, 2, Answer::KIND as u64);
-    text::put_digits(out, 2, 2, a.outcome as u64);
-    text::put_digits(out, 4, 16, a.price);
-    text::put_digits(out, 20, 8, a.rounds as u64);
-    text::put_digits(out, 28, 16, a.victims);
+    digits::put_digits(out, 0, 2, Answer::KIND as u64);
+    digits::put_digits(out, 2, 2, a.outcome as u64);
+    digits::put_digits(out, 4, 16, a.price);
+    digits::put_digits(out, 20, 8, a.rounds as u64);
+    digits::put_digits(out, 28, 16, a.victims);
     out[Answer::DIGITS] = 10;
 }
 
@@ -28,8 +28,8 @@ pub fn write_refusal(r: Refusal, out: &mut [u8])
     requires { ⌜ refusalDigits + 1 ≤ length (now out) ⌝ }
     ensures { λ _. ⌜ now (out .exit) ≡ refusalLine r ++ drop (refusalDigits + 1) (now (out .entry)) ⌝ }
 {
-    text::put_digits(out, 0, 2, Refusal::KIND as u64);
-    text::put_digits(out, 2, 2, r.number as u64);
-    text::put_digits(out, 4, 4, r.line as u64);
+    digits::put_digits(out, 0, 2, Refusal::KIND as u64);
+    digits::put_digits(out, 2, 2, r.number as u64);
+    digits::put_digits(out, 4, 4, r.line as u64);
     out[Refusal::DIGITS] = 10;
 }

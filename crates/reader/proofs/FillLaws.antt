@@ -6,7 +6,7 @@
 --   place-of                                where a job's frame starts in a text that is taken
 --   place-fits                              its places do not wrap
 --   cost-is                                 the cost that the code works out is the job's
---   TableRow, row-given                     a row by a table of pool states: what the graph layer gives
+--   TableRow, row-given                     a row by a table of pool states: what `pools::row` gives
 --   rows-are                                by the table of the text it is the job's row
 --   row-unique, cost-unique                 two rows, or two costs, of one job are equal
 use mathlib.Core.Path.{_≡_, refl, sym, ap, _∙_, subst}
@@ -18,7 +18,7 @@ use lib.ListN.{length, getD, set, take, length-set}
 use lib.Seq.{getD-set-same, getD-set-other, ext-getD}
 use Rattle.bits.specs.Mask.{MaskOf}
 use Rattle.bits.proofs.Masks.{mask-unique}
-use Rattle.graph.specs.Pools.{WaitsFor}
+use Rattle.pools.specs.Pools.{WaitsFor}
 use Rattle.ticks.specs.declared.Ticks.{Ticks}
 use Rattle.ticks.specs.Costs.{ageOf, costOf}
 use Rattle.frames.specs.declared.Header.{Header}

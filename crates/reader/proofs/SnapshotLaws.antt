@@ -14,7 +14,7 @@ use lib.ListN.{length, getD}
 use Rattle.bits.specs.Mask.{Has, MaskOf}
 use Rattle.sums.specs.Sum.{sum}
 use Rattle.sums.proofs.SumLaws.{sum-mono, sum-const}
-use Rattle.graph.specs.Pools.{WaitsFor}
+use Rattle.pools.specs.Pools.{WaitsFor}
 use Rattle.ticks.specs.Costs.{ageOf, costOf}
 use Rattle.frames.specs.declared.Header.{Header}
 use Rattle.frames.specs.Fields.{headerAt}

@@ -5,7 +5,7 @@
 --   Copying, copying-..                  a frame's states being copied: invariant, start, turn, end
 --   Tabled, tabled-..                    the table being filled job by job: invariant, start, turn, end
 --   table-room, table-all                a job's states fit in the table, and all of them do
---   table-fits                           what `graph::row` asks of the table
+--   table-fits                           what `pools::row` asks of the table
 --   state-is                             place j × s + p of the table has the state byte of job j's frame at pool p
 use mathlib.Core.Path.{_≡_, refl, sym, ap, _∙_, subst}
 use mathlib.Core.List.{List, [], _∷_, _++_, append-assoc}
@@ -15,9 +15,9 @@ use native.Mathlib.Decide.{ℕ-discrete, decLt}
 use native.Mathlib.Omega.{arith}
 use lib.ListN.{length, getD, take, drop, set, length-set, length-append, length-drop, take-append-drop, List·getD-append}
 use lib.Seq.{drop-cons, set-at, append-snoc, length-take-le, take-at, getD-append-add, getD-at}
-use Rattle.text.specs.Digits.{byteAt}
-use Rattle.text.proofs.SpellLaws.{part-next}
-use Rattle.graph.specs.Pools.{stateAt, Table}
+use Rattle.digits.specs.Digits.{byteAt}
+use Rattle.digits.proofs.SpellLaws.{part-next}
+use Rattle.pools.specs.Pools.{stateAt, Table}
 use Rattle.frames.specs.declared.Header.{Header}
 use Rattle.frames.specs.Fields.{stateByte}
 use Rattle.refusals.specs.Places.{jobPlace}

@@ -12,10 +12,10 @@ use lib.Dec.{lit<}
 use lib.ListN.{length, getD}
 use Rattle.bits.specs.Mask.{bit, Has, MaskOf}
 use Rattle.bits.proofs.Masks.{has-pow-cases}
-use Rattle.graph.specs.Pools.{blocks, stateAt, WaitsFor}
-use Rattle.text.specs.Digits.{isDigit, digit, byteAt, number}
+use Rattle.pools.specs.Pools.{blocks, stateAt, WaitsFor}
+use Rattle.digits.specs.Digits.{isDigit, digit, byteAt, number}
 use Rattle.text.specs.Line.{lineOf, lineAt}
-use Rattle.text.specs.Spell.{spelt, spell}
+use Rattle.digits.specs.Spell.{spelt, spell}
 use Rattle.ticks.specs.Costs.{ageOf, costOf}
 use Rattle.frames.specs.declared.Header.{Header}
 use Rattle.frames.specs.declared.Refusal.{Refusal}

@@ -1,7 +1,7 @@
 // The reader of snapshot text.
 //
 // `read` takes the text and lends two lists. Where nothing refuses the text it gives n, T and the allowance, and fills
-// the first n places of each list: the row of each job, by the graph layer's rule on the pool states, and its cost.
+// the first n places of each list: the row of each job, by the rule of `pools` on the pool states, and its cost.
 // Where something does, it gives the refusal with its line and writes nothing.
 use frames::Header;
 use frames::Job;
@@ -30,7 +30,7 @@ fn put_states(text: &[u8], at: usize, s: usize, table: &mut [u8], from: usize)
 {
     let mut p = 0;
     while p < s {
-        table[from + p] = text::byte_at(text, at + 20 + 2 * p);
+        table[from + p] = digits::byte_at(text, at + 20 + 2 * p);
         p += 1;
     }
 }
@@ -62,7 +62,7 @@ fn fill_rows(h: Header, text: &[u8], rows: &mut [u64])
     let size = n * s;
     let mut j = 0;
     while j < n {
-        rows[j] = graph::row(&table[..size], n, s, j);
+        rows[j] = pools::row(&table[..size], n, s, j);
         j += 1;
     }
 }

@@ -15,9 +15,9 @@ use lib.Dec.{T, eqb}
 use lib.ListN.{take, drop, set, replicate}
 use Rattle.sums.specs.Tests.{any}
 use Rattle.sums.specs.Sum.{sum, count}
-use Rattle.text.specs.Digits.{isDigit, digit, byteAt, number}
+use Rattle.digits.specs.Digits.{isDigit, digit, byteAt, number}
 use Rattle.text.specs.Line.{lineOf, hasFeed, lineAt, badLine}
-use Rattle.text.specs.Spell.{spelt, spell}
+use Rattle.digits.specs.Spell.{spelt, spell}
 use Rattle.cursor.specs.Order.{_when_, _then_}
 use Rattle.cursor.specs.Frame.{frameFault, furtherFault}
 use Rattle.ticks.specs.Costs.{ageOf}

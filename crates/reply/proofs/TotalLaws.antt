@@ -19,9 +19,9 @@ use Rattle.sums.specs.Tests.{any}
 use Rattle.sums.proofs.TestLaws.{any-intro, any-elim}
 use Rattle.walks.proofs.Distance.{tab, getD-tab}
 use Rattle.graph.specs.Waits.{waits}
-use Rattle.graph.specs.Pools.{blocks, stateAt, WaitsFor}
-use Rattle.graph.proofs.PoolLaws.{Met, met-end}
 use Rattle.network.specs.Costs.{costAt}
+use Rattle.pools.specs.Pools.{blocks, stateAt, WaitsFor}
+use Rattle.pools.proofs.PoolLaws.{Met, met-end}
 use Rattle.checks.proofs.RefusalLaws.{faultless-few, faultless-job, faultless-apart}
 use Rattle.verdict.proofs.ExistsLaws.{verdict-exists}
 use Rattle.frames.specs.declared.Refusal.{Refusal}

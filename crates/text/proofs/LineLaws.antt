@@ -18,7 +18,7 @@ use lib.ListN.{length, getD, drop, drop-of-length-le, length-drop}
 use lib.Seq.{drop-cons, getD-drop}
 use Rattle.sums.specs.Tests.{any}
 use Rattle.sums.proofs.TestLaws.{T-eq, any-intro}
-use Rattle.text.specs.Digits.{isDigit}
+use Rattle.digits.specs.Digits.{isDigit}
 use Rattle.text.specs.Line.{lineOf, hasFeed, lineAt, badLine}
 
 module _ (t : List ℕ) (at : ℕ) where

@@ -15,8 +15,8 @@ use Prim.Native.Nat.{ℕ, suc, _+_, _*_, _%_, _^_, _<_, _≤_, zero-le}
 use native.Mathlib.Omega.{arith}
 use lib.ListN.{length, getD, drop, drop-of-length-le, length-drop}
 use lib.Seq.{drop-cons}
-use Rattle.text.specs.Digits.{isDigit, digit}
-use Rattle.text.proofs.DigitLaws.{digit-small}
+use Rattle.digits.specs.Digits.{isDigit, digit}
+use Rattle.digits.proofs.DigitLaws.{digit-small}
 use Rattle.words.specs.declared.Number.{Number}
 use Rattle.words.specs.Words.{grown, taken, wordAt}
 

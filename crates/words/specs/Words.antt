@@ -9,7 +9,7 @@ use mathlib.Core.Bool.{cond}
 use mathlib.Core.List.{List, [], _∷_}
 use Prim.Native.Nat.{ℕ, zero, suc, _+_, _*_, _%_, _^_}
 use lib.ListN.{drop}
-use Rattle.text.specs.Digits.{isDigit, digit}
+use Rattle.digits.specs.Digits.{isDigit, digit}
 use Rattle.words.specs.declared.Number.{Number}
 
 unfoldable pub grown : ℕ → List ℕ → ℕ

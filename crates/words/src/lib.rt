@@ -2,8 +2,8 @@
 //
 // `word` reads the number at a place and says where the next one starts; `words` fills a list with the numbers from a place on.
 // A number counts modulo 2^64, and is 0 where no digit stands, as at the end of the text.
-use text::digit_value;
-use text::is_digit;
+use digits::digit_value;
+use digits::is_digit;
 ghost use mathlib.Core.Path.{_≡_};
 ghost use Prim.Native.Nat.{_≤_};
 ghost use lib.ListN.{length};

@@ -6,7 +6,7 @@ use Rattle.cursor.proofs.frame_fault.Statement.{statement}
 use Rattle.cursor.proofs.frame_fault.Tie as tie
 use Rattle.cursor.proofs.frame_fault.Reads as reads
 use Rattle.cursor.proofs.frame_fault.Lts as lts
-use Rattle.text.proofs.byte_at.Reads as byte-at-reads
+use Rattle.digits.proofs.byte_at.Reads as byte-at-reads
 use Rattle.text.proofs.line_length.Reads as line-length-reads
 use Rattle.text.proofs.bad_line.Reads as bad-line-reads
 

@@ -9,7 +9,7 @@ use Rattle.faults.proofs.state_above.Statement.{statement}
 use Rattle.faults.proofs.state_above.Tie as tie
 use Rattle.faults.proofs.state_above.Reads as reads
 use Rattle.faults.proofs.state_above.Lts as lts
-use Rattle.text.proofs.byte_at.Reads as byte-at-reads
+use Rattle.digits.proofs.byte_at.Reads as byte-at-reads
 
 abbrev Inv-loop : tie.InvT-loop
 Inv-loop text at s p₀ p = (p ≤ s) × (stateAbove text at p ≡ false)

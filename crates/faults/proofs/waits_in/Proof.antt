@@ -9,7 +9,7 @@ use Rattle.faults.proofs.waits_in.Statement.{statement}
 use Rattle.faults.proofs.waits_in.Tie as tie
 use Rattle.faults.proofs.waits_in.Reads as reads
 use Rattle.faults.proofs.waits_in.Lts as lts
-use Rattle.text.proofs.byte_at.Reads as byte-at-reads
+use Rattle.digits.proofs.byte_at.Reads as byte-at-reads
 
 abbrev Inv-loop : tie.InvT-loop
 Inv-loop text at s waits₀ p₀ waits p = (p ≤ s) × (waits ≡ waitsIn text at p)

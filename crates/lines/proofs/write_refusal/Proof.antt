@@ -7,7 +7,7 @@ use Rattle.lines.proofs.write_refusal.Statement.{statement}
 use Rattle.lines.proofs.write_refusal.Tie as tie
 use Rattle.lines.proofs.write_refusal.Reads as reads
 use Rattle.lines.proofs.write_refusal.Lts as lts
-use Rattle.text.proofs.put_digits.Reads as put-digits-reads
+use Rattle.digits.proofs.put_digits.Reads as put-digits-reads
 
 cast-put-digits : tie.Need-cast-put-digits
 cast-put-digits c = search needs

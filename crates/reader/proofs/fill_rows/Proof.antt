@@ -11,7 +11,7 @@ use Rattle.reader.proofs.fill_rows.Statement.{statement}
 use Rattle.reader.proofs.fill_rows.Tie as tie
 use Rattle.reader.proofs.fill_rows.Reads as reads
 use Rattle.reader.proofs.fill_rows.Lts as lts
-use Rattle.graph.proofs.row.Reads as row-reads
+use Rattle.pools.proofs.row.Reads as row-reads
 use Rattle.reader.proofs.pool_table.Reads as pool-table-reads
 
 abbrev Inv-loop : tie.InvT-loop

@@ -6,7 +6,7 @@ use Rattle.reader.proofs.put_states.Statement.{statement}
 use Rattle.reader.proofs.put_states.Tie as tie
 use Rattle.reader.proofs.put_states.Reads as reads
 use Rattle.reader.proofs.put_states.Lts as lts
-use Rattle.text.proofs.byte_at.Reads as byte-at-reads
+use Rattle.digits.proofs.byte_at.Reads as byte-at-reads
 
 abbrev Inv-loop : tie.InvT-loop
 Inv-loop text at s table₀ from p₀ table p = Copying text at s table₀ from table p

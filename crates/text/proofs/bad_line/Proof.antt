@@ -8,7 +8,7 @@ use Rattle.text.proofs.bad_line.Statement.{statement}
 use Rattle.text.proofs.bad_line.Tie as tie
 use Rattle.text.proofs.bad_line.Reads as reads
 use Rattle.text.proofs.bad_line.Lts as lts
-use Rattle.text.proofs.is_digit.Reads as is-digit-reads
+use Rattle.digits.proofs.is_digit.Reads as is-digit-reads
 
 abbrev Inv-loop : tie.InvT-loop
 Inv-loop text at bytes i₀ i = Scanned text at bytes i

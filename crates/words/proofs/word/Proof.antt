@@ -9,8 +9,8 @@ use Rattle.words.proofs.word.Statement.{statement}
 use Rattle.words.proofs.word.Tie as tie
 use Rattle.words.proofs.word.Reads as reads
 use Rattle.words.proofs.word.Lts as lts
-use Rattle.text.proofs.digit_value.Reads as digit-value-reads
-use Rattle.text.proofs.is_digit.Reads as is-digit-reads
+use Rattle.digits.proofs.digit_value.Reads as digit-value-reads
+use Rattle.digits.proofs.is_digit.Reads as is-digit-reads
 
 abbrev Inv-loop : tie.InvT-loop
 Inv-loop text at value₀ i₀ value i = Reading text at value i

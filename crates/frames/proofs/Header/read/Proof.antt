@@ -5,9 +5,9 @@ use Rattle.frames.proofs.Header.read.Statement.{statement}
 use Rattle.frames.proofs.Header.read.Tie as tie
 use Rattle.frames.proofs.Header.read.Reads as reads
 use Rattle.frames.proofs.Header.read.Lts as lts
-use Rattle.text.proofs.byte_at.Reads as byte-at-reads
-use Rattle.text.proofs.number2.Reads as number2-reads
-use Rattle.text.proofs.number4.Reads as number4-reads
+use Rattle.digits.proofs.byte_at.Reads as byte-at-reads
+use Rattle.digits.proofs.number2.Reads as number2-reads
+use Rattle.digits.proofs.number4.Reads as number4-reads
 
 add-number4 : tie.Need-add-number4
 add-number4 c = search needs

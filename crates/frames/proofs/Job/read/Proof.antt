@@ -5,8 +5,8 @@ use Rattle.frames.proofs.Job.read.Statement.{statement}
 use Rattle.frames.proofs.Job.read.Tie as tie
 use Rattle.frames.proofs.Job.read.Reads as reads
 use Rattle.frames.proofs.Job.read.Lts as lts
-use Rattle.text.proofs.byte_at.Reads as byte-at-reads
-use Rattle.text.proofs.number4.Reads as number4-reads
+use Rattle.digits.proofs.byte_at.Reads as byte-at-reads
+use Rattle.digits.proofs.number4.Reads as number4-reads
 
 add-byte-at : tie.Need-add-byte-at
 add-byte-at c = search needs

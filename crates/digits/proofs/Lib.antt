@@ -1,0 +1,4 @@
+pub mod BackLaws
+pub mod DigitLaws
+pub mod SpellLaws
+pub mod Unique

@@ -1,0 +1,2 @@
+pub mod PoolLaws
+pub mod Unique
