@@ -93,27 +93,33 @@ static void begin(const struct snapshot *s, struct flow *f)
     }
 }
 
-/* The place of T's in-node in the queue, or 0 where no path is left. */
+/* The place of T's in-node in the queue, or 0 where no path is left. The nodes of
+ * a level lie on one side, and their neighbours on the other. */
 static unsigned search(const struct snapshot *s, struct flow *f)
 {
     unsigned source = 2 * s->t + 1, sink = 2 * s->t;
     uint64_t unmet[2] = {~(uint64_t)0, ~only(s->t)};
-    unsigned met = 1;
+    unsigned met = 1, head = 0, side = 0;
     f->queue[0] = (uint8_t)source;
-    for (unsigned head = 0; head < met; head++) {
-        unsigned a = f->queue[head], side = 1 - a % 2;
-        uint64_t rest = f->steps[a] & unmet[side];
-        unmet[side] ^= rest;
-        while (rest != 0) {
-            unsigned b = 2 * lowest(rest) + side;
-            f->queue[met] = (uint8_t)b;
-            f->parent[met] = (uint8_t)head;
-            if (b == sink) {
-                return met;
+    while (head < met) {
+        unsigned end = met;
+        uint64_t open = unmet[side];
+        for (; head < end; head++) {
+            uint64_t rest = f->steps[f->queue[head]] & open;
+            open ^= rest;
+            while (rest != 0) {
+                unsigned b = 2 * lowest(rest) + side;
+                f->queue[met] = (uint8_t)b;
+                f->parent[met] = (uint8_t)head;
+                if (b == sink) {
+                    return met;
+                }
+                met++;
+                rest = without_lowest(rest);
             }
-            met++;
-            rest = without_lowest(rest);
         }
+        unmet[side] = open;
+        side = 1 - side;
     }
     return 0;
 }

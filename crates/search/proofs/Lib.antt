@@ -6,5 +6,6 @@ pub mod MaskSteps
 pub mod LeadsLaws
 pub mod SinceLaws
 pub mod OuterLaws
+pub mod LevelLaws
 pub mod InnerLaws
 pub mod MetLaws
