@@ -5,7 +5,7 @@
 #   sh tests/texts.sh [PROGRAM_TEXTS [ENTRY_TEXTS [SEED]]]
 set -eu
 cd "$(dirname "$0")/.."
-count=${1:-300}
+count=${1:-500}
 seed=${3:-1}
 folder=$(mktemp -d)
 trap 'rm -rf "$folder"' EXIT
@@ -34,4 +34,4 @@ echo "texts: $done through the program, all alike"
 
 sh tests/link.sh "$folder/entry" tests/texts.c $second/second.c $second/rounds.c $second/victims.c $second/reader.c $second/dice.c \
     $second/generate_fields.c $second/generate_texts.c
-"$folder/entry" "${2:-20000}" "$seed"
+"$folder/entry" "${2:-8000}" "$seed"
