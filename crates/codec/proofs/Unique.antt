@@ -13,8 +13,8 @@ use Rattle.codec.specs.Frame.{answerBytes}
 pub number-at-unique : (bytes : List ℕ) (at r s : ℕ) → r ≡ numberAt bytes at 8 → s ≡ numberAt bytes at 8 → r ≡ s
 number-at-unique bytes at r s p q = p ∙ sym q
 
-pub put-number-unique : (before : List ℕ) (at x : ℕ) (a b : List ℕ) → a ≡ take at before ++ bytesOf 8 x ++ drop (at + 8) before → b ≡ take at before ++ bytesOf 8 x ++ drop (at + 8) before → a ≡ b
-put-number-unique before at x a b p q = p ∙ sym q
+pub put-number-unique : (before : List ℕ) (at k x : ℕ) (a b : List ℕ) → a ≡ take at before ++ bytesOf k x ++ drop (at + k) before → b ≡ take at before ++ bytesOf k x ++ drop (at + k) before → a ≡ b
+put-number-unique before at k x a b p q = p ∙ sym q
 
 pub put-answer-unique : (frame : Answer) (before a b : List ℕ) → a ≡ answerBytes frame ++ drop 22 before → b ≡ answerBytes frame ++ drop 22 before → a ≡ b
 put-answer-unique frame before a b p q = p ∙ sym q

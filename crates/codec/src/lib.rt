@@ -1,6 +1,6 @@
 // Numbers and answers as bytes, most significant first.
 //
-// `number_at` and `put_number` read and write one number of 8 bytes, `put_answer` writes the 22 bytes of an answer frame.
+// `number_at` reads a number of 8 bytes, `put_number` writes one of so many, `put_answer` writes the 22 bytes of an answer frame.
 // A function that writes leaves every byte that it does not write as it was.
 use frames::Answer;
 ghost use mathlib.Core.Path.{_≡_};
@@ -31,30 +31,18 @@ pub fn number_at(bytes: &[u8], at: usize) -> u64
     x6 * 256 + wide(bytes[at + 7])
 }
 
-// Writes the 8 bytes of a number at a place.
-pub fn put_number(bytes: &mut [u8], at: usize, x: u64)
-    requires { ⌜ at + 8 ≤ length (now bytes) ⌝ }
-    ensures { λ _. ⌜ now (bytes .exit) ≡ take at (now (bytes .entry)) ++ bytesOf 8 x ++ drop (at + 8) (now (bytes .entry)) ⌝ }
+// Writes the last k bytes of a number at a place.
+pub fn put_number(bytes: &mut [u8], at: usize, k: usize, x: u64)
+    requires { ⌜ at + k ≤ length (now bytes) ⌝ }
+    ensures { λ _. ⌜ now (bytes .exit) ≡ take at (now (bytes .entry)) ++ bytesOf k x ++ drop (at + k) (now (bytes .entry)) ⌝ }
 {
-    bytes[at] = (x / 72057594037927936 % 256) as u8;
-    bytes[at + 1] = (x / 281474976710656 % 256) as u8;
-    bytes[at + 2] = (x / 1099511627776 % 256) as u8;
-    bytes[at + 3] = (x / 4294967296 % 256) as u8;
-    bytes[at + 4] = (x / 16777216 % 256) as u8;
-    bytes[at + 5] = (x / 65536 % 256) as u8;
-    bytes[at + 6] = (x / 256 % 256) as u8;
-    bytes[at + 7] = (x % 256) as u8;
-}
-
-// Writes the 4 bytes of a number at a place.
-fn put_number4(bytes: &mut [u8], at: usize, x: u32)
-    requires { ⌜ at + 4 ≤ length (now bytes) ⌝ }
-    ensures { λ _. ⌜ now (bytes .exit) ≡ take at (now (bytes .entry)) ++ bytesOf 4 x ++ drop (at + 4) (now (bytes .entry)) ⌝ }
-{
-    bytes[at] = (x / 16777216 % 256) as u8;
-    bytes[at + 1] = (x / 65536 % 256) as u8;
-    bytes[at + 2] = (x / 256 % 256) as u8;
-    bytes[at + 3] = (x % 256) as u8;
+    let mut rest = x;
+    let mut i = k;
+    while 0 < i {
+        i -= 1;
+        bytes[at + i] = (rest % 256) as u8;
+        rest /= 256;
+    }
 }
 
 // Writes the 22 bytes of an answer frame at the front of a list.
@@ -64,7 +52,7 @@ pub fn put_answer(a: Answer, bytes: &mut [u8])
 {
     bytes[0] = Answer::KIND;
     bytes[1] = a.outcome;
-    put_number(bytes, 2, a.price);
-    put_number4(bytes, 10, a.rounds);
-    put_number(bytes, 14, a.victims);
+    put_number(bytes, 2, 8, a.price);
+    put_number(bytes, 10, 4, a.rounds as u64);
+    put_number(bytes, 14, 8, a.victims);
 }

@@ -1,19 +1,20 @@
 -- Numbers written into bytes that were zeroed before: those that are 0 are passed over.
 -- Assumes nothing.
 --
---   zeros-eight          eight numbers whose | is 0 are 0
+--   Blank, blank-..      eight numbers whose | is 0 are 0: the invariant of that loop, its start, a turn, its end
 --   up-..                the numbers below a place, and 0 for the others: one more, those that are 0, all
 --   Writing              the invariant of both loops: the numbers below i are written
 --   writing-..           its start, a number, what `write_part` asks and leaves, the end
 --   Clearing             the invariant of the loop that zeroes bytes; clearing-start, clearing-turn, clearing-end
 --   zeroed-numbers       the bytes of zeros are zeros
-use mathlib.Core.Path.{_≡_, refl, sym, ap, _∙_}
+use mathlib.Core.Path.{_≡_, refl, sym, ap, _∙_, subst}
 use mathlib.Core.Logic.{_⊎_, inl, inr}
 use mathlib.Core.List.{List, [], _∷_, _++_, append-nil}
 use Prim.Native.Nat.{ℕ, zero, suc, _+_, _*_, _-_, _<_, _≤_, zero-le}
 use native.Mathlib.Nat.{add-zero, sub-zero, le-refl}
 use native.Mathlib.Numerals.{add-one}
 use native.Mathlib.Omega.{arith}
+use native.Mathlib.Decide.{ℕ-discrete}
 use borrow.Author.Fill.{fill-none, fill-more}
 use lib.Bits.{bitOr, or-comm}
 use lib.ListN.{length, getD, take, drop, set, replicate, length-append, length-drop, length-set, length-replicate}
@@ -29,37 +30,23 @@ use Rattle.lists.proofs.ByteLists.{all-length, all-zero, all-put}
 or-both : (a b : ℕ) → bitOr a b ≡ 0 → (a ≡ 0) × (b ≡ 0)
 or-both a b e = (omega (arith, e, or-le a b), omega (arith, e, or-comm a b, or-le b a))
 
-or-four : (a b c d : ℕ) → bitOr (bitOr (bitOr a b) c) d ≡ 0 → (a ≡ 0) × (b ≡ 0) × (c ≡ 0) × (d ≡ 0)
-or-four a b c d e =
-    let x = or-both (bitOr (bitOr a b) c) d e in
-    let y = or-both (bitOr a b) c (x .0) in
-    let z = or-both a b (y .0) in
-    (z .0, z .1, y .1, x .1)
+-- the first i numbers from a place on are 0 where their | is
+pub record Blank (list : List ℕ) (at any i : ℕ) : Type 0 where
+  pub under : i ≤ 8
+  pub zeros : any ≡ 0 → Zeros list at i
 
-or-eight : (a b c d e f g h : ℕ) → bitOr (bitOr (bitOr (bitOr a b) c) d) (bitOr (bitOr (bitOr e f) g) h) ≡ 0
-    → ((a ≡ 0) × (b ≡ 0) × (c ≡ 0) × (d ≡ 0)) × ((e ≡ 0) × (f ≡ 0) × (g ≡ 0) × (h ≡ 0))
-or-eight a b c d e f g h z =
-    let x = or-both (bitOr (bitOr (bitOr a b) c) d) (bitOr (bitOr (bitOr e f) g) h) z in
-    (or-four a b c d (x .0), or-four e f g h (x .1))
+pub blank-start : (list : List ℕ) (at : ℕ) → Blank list at 0 0
+blank-start list at = record { under = zero-le; zeros = λ e j l. absurd (omega arith) }
 
-pub zeros-eight : (l : List ℕ) (at : ℕ)
-    → bitOr (bitOr (bitOr (bitOr (getD l at 0) (getD l (at + 1) 0)) (getD l (at + 2) 0)) (getD l (at + 3) 0))
-    (bitOr (bitOr (bitOr (getD l (at + 4) 0) (getD l (at + 5) 0)) (getD l (at + 6) 0)) (getD l (at + 7) 0)) ≡ 0 → Zeros l at 8
-zeros-eight l at e =
-    let x = or-eight (getD l at 0) (getD l (at + 1) 0) (getD l (at + 2) 0) (getD l (at + 3) 0) (getD l (at + 4) 0) (getD l (at + 5) 0) (getD l (at + 6) 0) (getD l (at + 7) 0) e in
-    go (x .0) (x .1)
+pub blank-turn : (list : List ℕ) (at any i : ℕ) → Blank list at any i → i < 8 → Blank list at (bitOr any (getD list (at + i) 0)) (i + 1)
+blank-turn list at any i B l = record { under = omega arith; zeros = λ e j m. next (or-both any (getD list (at + i) 0) e) j m (ℕ-discrete j i) }
   where
-    go : (getD l at 0 ≡ 0) × (getD l (at + 1) 0 ≡ 0) × (getD l (at + 2) 0 ≡ 0) × (getD l (at + 3) 0 ≡ 0)
-        → (getD l (at + 4) 0 ≡ 0) × (getD l (at + 5) 0 ≡ 0) × (getD l (at + 6) 0 ≡ 0) × (getD l (at + 7) 0 ≡ 0) → Zeros l at 8
-    go p q zero lt = rw (add-zero at) (p .0)
-    go p q (suc zero) lt = p .1
-    go p q (suc (suc zero)) lt = p .2
-    go p q (suc (suc (suc zero))) lt = p .3
-    go p q (suc (suc (suc (suc zero)))) lt = q .0
-    go p q (suc (suc (suc (suc (suc zero))))) lt = q .1
-    go p q (suc (suc (suc (suc (suc (suc zero)))))) lt = q .2
-    go p q (suc (suc (suc (suc (suc (suc (suc zero))))))) lt = q .3
-    go p q (suc (suc (suc (suc (suc (suc (suc (suc j)))))))) lt = absurd (omega arith)
+    next : (any ≡ 0) × (getD list (at + i) 0 ≡ 0) → (j : ℕ) → j < i + 1 → Dec (j ≡ i) → getD list (at + j) 0 ≡ 0
+    next p j m (yes e) = ap (λ (z : ℕ). getD list (at + z) 0) e ∙ p .1
+    next p j m (no n) = B .zeros (p .0) j (omega arith)
+
+pub blank-end : (list : List ℕ) (at any i : ℕ) → Blank list at any i → 8 ≤ i → any ≡ 0 → Zeros list at 8
+blank-end list at any i B l e = let q : i ≡ 8 = omega (arith, B .under) in subst (Zeros list at) q (B .zeros e)
 
 -- ---- the numbers below a place
 

@@ -51,9 +51,13 @@ fn blank_eight(list: &[u64], at: usize) -> bool
     requires { ⌜ at + 8 ≤ length (now list) ⌝ }
     ensures { λ r. ⌜ (r ≡ true → Zeros (now (list .entry)) at 8) ⌝ }
 {
-    let low = list[at] | list[at + 1] | list[at + 2] | list[at + 3];
-    let high = list[at + 4] | list[at + 5] | list[at + 6] | list[at + 7];
-    if low | high == 0 {
+    let mut any = 0u64;
+    let mut i = 0;
+    while i < 8 {
+        any |= list[at + i];
+        i += 1;
+    }
+    if any == 0 {
         return true;
     }
     false
@@ -68,7 +72,7 @@ fn write_part(list: &[u64], at: usize, end: usize, bytes: &mut [u8])
     while i < end {
         let x = list[i];
         if x != 0 {
-            put_number(bytes, 8 * i, x);
+            put_number(bytes, 8 * i, 8, x);
         }
         i += 1;
     }
@@ -83,7 +87,7 @@ fn write_each(list: &[u64], bytes: &mut [u8])
 {
     let mut i = 0;
     while i < list.len() {
-        put_number(bytes, 8 * i, list[i]);
+        put_number(bytes, 8 * i, 8, list[i]);
         i += 1;
     }
 }

@@ -1,114 +1,60 @@
--- `codec::put_number`: eight stores, straight line.
+-- `codec::put_number`. Invariant: the bytes from i on are written, and nothing else is changed.
 use native.Mathlib.Omega.{arith}
-use lib.ListN.{length-set}
-use Rattle.codec.proofs.ByteLaws.{put-eight}
-use borrow.Author.Needs.{needs}
+use mathlib.Core.Path.{refl, _∙_}
+use Rattle.digits.proofs.SpellLaws.{Spelling, spelling-none, spelling-more, spelling-end}
+use Rattle.codec.proofs.ByteLaws.{bytes-based}
 use Rattle.codec.proofs.put_number.Statement.{statement}
 use Rattle.codec.proofs.put_number.Tie as tie
 use Rattle.codec.proofs.put_number.Reads as reads
 use Rattle.codec.proofs.put_number.Lts as lts
 
-cast-bytes : tie.Need-cast-bytes
-cast-bytes c = search needs
+abbrev Inv-loop : tie.InvT-loop
+Inv-loop bytes₀ at k x rest₀ i₀ bytes rest i = Spelling 256 (λ d. d) bytes₀ at k x bytes rest i
 
-slice-write-bytes : tie.Need-slice-write-bytes
-slice-write-bytes c = search needs
+abbrev μ-loop : tie.MeasureT-loop
+μ-loop bytes₀ at k x rest₀ i₀ bytes rest i = i
 
-cast-bytes-2 : tie.Need-cast-bytes-2
-cast-bytes-2 c = search needs
+loop-holds : tie.Need-loop-holds Inv-loop μ-loop
+loop-holds c = spelling-none 256 (λ d. d) _ _ _ _
 
-add-bytes : tie.Need-add-bytes
-add-bytes c = search needs
+sub-i : tie.Need-sub-i Inv-loop μ-loop
+sub-i c = omega arith
 
-slice-write-bytes-2 : tie.Need-slice-write-bytes-2
-slice-write-bytes-2 c = simp length-set (omega arith)
+cast-bytes : tie.Need-cast-bytes Inv-loop μ-loop
+cast-bytes c = omega arith
 
-cast-bytes-3 : tie.Need-cast-bytes-3
-cast-bytes-3 c = search needs
+add-bytes : tie.Need-add-bytes Inv-loop μ-loop
+add-bytes c = omega arith
 
-add-bytes-2 : tie.Need-add-bytes-2
-add-bytes-2 c = search needs
+slice-write-bytes : tie.Need-slice-write-bytes Inv-loop μ-loop
+slice-write-bytes c = omega arith
 
-slice-write-bytes-3 : tie.Need-slice-write-bytes-3
-slice-write-bytes-3 c = simp length-set (omega arith)
+loop-less : tie.Need-loop-less Inv-loop μ-loop
+loop-less c = omega arith
 
-cast-bytes-4 : tie.Need-cast-bytes-4
-cast-bytes-4 c = search needs
+loop-again : tie.Need-loop-again Inv-loop μ-loop
+loop-again c = let l = c .before in spelling-more 256 (λ d. d) _ _ _ _ _ _ _ _ (l .before .pre) (omega arith) refl (l .loop .inv)
 
-add-bytes-3 : tie.Need-add-bytes-3
-add-bytes-3 c = search needs
+same-length : tie.Need-same-length Inv-loop μ-loop
+same-length c = omega arith
 
-slice-write-bytes-4 : tie.Need-slice-write-bytes-4
-slice-write-bytes-4 c = simp length-set (omega arith)
-
-cast-bytes-5 : tie.Need-cast-bytes-5
-cast-bytes-5 c = search needs
-
-add-bytes-4 : tie.Need-add-bytes-4
-add-bytes-4 c = search needs
-
-slice-write-bytes-5 : tie.Need-slice-write-bytes-5
-slice-write-bytes-5 c = simp length-set (omega arith)
-
-cast-bytes-6 : tie.Need-cast-bytes-6
-cast-bytes-6 c = search needs
-
-add-bytes-5 : tie.Need-add-bytes-5
-add-bytes-5 c = search needs
-
-slice-write-bytes-6 : tie.Need-slice-write-bytes-6
-slice-write-bytes-6 c = simp length-set (omega arith)
-
-cast-bytes-7 : tie.Need-cast-bytes-7
-cast-bytes-7 c = search needs
-
-add-bytes-6 : tie.Need-add-bytes-6
-add-bytes-6 c = search needs
-
-slice-write-bytes-7 : tie.Need-slice-write-bytes-7
-slice-write-bytes-7 c = simp length-set (omega arith)
-
-cast-bytes-8 : tie.Need-cast-bytes-8
-cast-bytes-8 c = search needs
-
-add-bytes-7 : tie.Need-add-bytes-7
-add-bytes-7 c = search needs
-
-slice-write-bytes-8 : tie.Need-slice-write-bytes-8
-slice-write-bytes-8 c = simp length-set (omega arith)
-
-same-length : tie.Need-same-length
-same-length c = simp length-set
-
-returns : tie.Need-returns
-returns c = put-eight (c .args .bytes .now) (c .args .at) (c .args .x) (c .pre)
+returns : tie.Need-returns Inv-loop μ-loop
+returns c =
+    let s = c .before .before in
+    spelling-end 256 (λ d. d) _ _ _ _ _ _ _ (omega arith) (c .before .loop .inv) ∙ rw (bytes-based (s .args .k) (s .args .x)) refl
 
 pub put-number-spec : {M : Type 1} → statement M
 put-number-spec =
     tie.close
     (tie.spec
+    Inv-loop
+    μ-loop
+    loop-holds
+    sub-i
     cast-bytes
-    slice-write-bytes
-    cast-bytes-2
     add-bytes
-    slice-write-bytes-2
-    cast-bytes-3
-    add-bytes-2
-    slice-write-bytes-3
-    cast-bytes-4
-    add-bytes-3
-    slice-write-bytes-4
-    cast-bytes-5
-    add-bytes-4
-    slice-write-bytes-5
-    cast-bytes-6
-    add-bytes-5
-    slice-write-bytes-6
-    cast-bytes-7
-    add-bytes-6
-    slice-write-bytes-7
-    cast-bytes-8
-    add-bytes-7
-    slice-write-bytes-8
+    slice-write-bytes
+    loop-less
+    loop-again
     same-length
     returns)

@@ -1,115 +1,58 @@
--- `lists::blank_eight`: eight numbers joined by |, straight line.
-use Prim.Native.Nat.{ℕ}
-use mathlib.Core.Path.{_≡_}
 use native.Mathlib.Omega.{arith}
-use Rattle.lists.proofs.WriteLaws.{zeros-eight}
-use borrow.Author.Needs.{needs}
+-- `lists::blank_eight`. Invariant: the first i numbers are 0 where their | is.
+use mathlib.Core.Path.{_≡_}
+use Prim.Native.Nat.{ℕ, _-_}
+use Rattle.lists.proofs.WriteLaws.{Blank, blank-start, blank-turn, blank-end}
 use Rattle.lists.proofs.blank_eight.Statement.{statement}
 use Rattle.lists.proofs.blank_eight.Tie as tie
 use Rattle.lists.proofs.blank_eight.Reads as reads
 use Rattle.lists.proofs.blank_eight.Lts as lts
 
-mul-low : tie.Need-mul-low
-mul-low c = search needs
+abbrev Inv-loop : tie.InvT-loop
+Inv-loop list at any₀ i₀ any i = Blank list at any i
 
-shared-slice-read-low : tie.Need-shared-slice-read-low
-shared-slice-read-low c = search needs
+abbrev μ-loop : tie.MeasureT-loop
+μ-loop list at any₀ i₀ any i = 8 - i
 
-add-low : tie.Need-add-low
-add-low c = search needs
+loop-holds : tie.Need-loop-holds Inv-loop μ-loop
+loop-holds c = blank-start _ _
 
-mul-low-2 : tie.Need-mul-low-2
-mul-low-2 c = search needs
+add-any : tie.Need-add-any Inv-loop μ-loop
+add-any c = omega arith
 
-shared-slice-read-low-2 : tie.Need-shared-slice-read-low-2
-shared-slice-read-low-2 c = search needs
+mul-any : tie.Need-mul-any Inv-loop μ-loop
+mul-any c = omega arith
 
-add-low-2 : tie.Need-add-low-2
-add-low-2 c = search needs
+shared-slice-read-any : tie.Need-shared-slice-read-any Inv-loop μ-loop
+shared-slice-read-any c = omega arith
 
-mul-low-3 : tie.Need-mul-low-3
-mul-low-3 c = search needs
+add-i : tie.Need-add-i Inv-loop μ-loop
+add-i c = omega arith
 
-shared-slice-read-low-3 : tie.Need-shared-slice-read-low-3
-shared-slice-read-low-3 c = search needs
+loop-less : tie.Need-loop-less Inv-loop μ-loop
+loop-less c = omega arith
 
-add-low-3 : tie.Need-add-low-3
-add-low-3 c = search needs
+loop-again : tie.Need-loop-again Inv-loop μ-loop
+loop-again c = blank-turn _ _ _ _ (c .before .before .loop .inv) (omega arith)
 
-mul-low-4 : tie.Need-mul-low-4
-mul-low-4 c = search needs
+returns : tie.Need-returns Inv-loop μ-loop
+returns c = λ e. blank-end _ _ _ _ (c .before .before .loop .inv) (omega arith) (c .if1 .taken)
 
-shared-slice-read-low-4 : tie.Need-shared-slice-read-low-4
-shared-slice-read-low-4 c = search needs
-
-add-high : tie.Need-add-high
-add-high c = search needs
-
-mul-high : tie.Need-mul-high
-mul-high c = search needs
-
-shared-slice-read-high : tie.Need-shared-slice-read-high
-shared-slice-read-high c = search needs
-
-add-high-2 : tie.Need-add-high-2
-add-high-2 c = search needs
-
-mul-high-2 : tie.Need-mul-high-2
-mul-high-2 c = search needs
-
-shared-slice-read-high-2 : tie.Need-shared-slice-read-high-2
-shared-slice-read-high-2 c = search needs
-
-add-high-3 : tie.Need-add-high-3
-add-high-3 c = search needs
-
-mul-high-3 : tie.Need-mul-high-3
-mul-high-3 c = search needs
-
-shared-slice-read-high-3 : tie.Need-shared-slice-read-high-3
-shared-slice-read-high-3 c = search needs
-
-add-high-4 : tie.Need-add-high-4
-add-high-4 c = search needs
-
-mul-high-4 : tie.Need-mul-high-4
-mul-high-4 c = search needs
-
-shared-slice-read-high-4 : tie.Need-shared-slice-read-high-4
-shared-slice-read-high-4 c = search needs
-
-returns : tie.Need-returns
-returns c = λ _. let s = c .before .before .before .before .before .before .before .before .before in zeros-eight (s .args .list .now) (s .args .at) (c .if1 .taken)
-
-returns-2 : tie.Need-returns-2
+returns-2 : tie.Need-returns-2 Inv-loop μ-loop
 returns-2 c = λ e. let z : _≡_ {A = ℕ} 0 1 = cc in absurd (omega arith)
 
 pub blank-eight-spec : {M : Type 1} → statement M
 blank-eight-spec =
     tie.close
     (tie.spec
-    mul-low
-    shared-slice-read-low
-    add-low
-    mul-low-2
-    shared-slice-read-low-2
-    add-low-2
-    mul-low-3
-    shared-slice-read-low-3
-    add-low-3
-    mul-low-4
-    shared-slice-read-low-4
-    add-high
-    mul-high
-    shared-slice-read-high
-    add-high-2
-    mul-high-2
-    shared-slice-read-high-2
-    add-high-3
-    mul-high-3
-    shared-slice-read-high-3
-    add-high-4
-    mul-high-4
-    shared-slice-read-high-4
+    Inv-loop
+    μ-loop
+    loop-holds
+    add-any
+    mul-any
+    shared-slice-read-any
+    add-i
+    loop-less
+    loop-again
     returns
     returns-2)
