@@ -34,4 +34,4 @@ echo "texts: $done through the program, all alike"
 
 sh tests/link.sh "$folder/entry" tests/texts.c $second/second.c $second/rounds.c $second/victims.c $second/reader.c $second/dice.c \
     $second/generate_fields.c $second/generate_texts.c
-"$folder/entry" "${2:-8000}" "$seed"
+"$folder/entry" "${2:-6000}" "$seed"
