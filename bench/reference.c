@@ -1,5 +1,6 @@
 /* The reference: the method of the proved code, in C, as one writes it by hand:
  * masks of jobs, a breadth-first search with a queue of bytes, parents by place,
+ * behind the first rounds the levels of a search for all paths of one length,
  * two walks up the parents in a round. Job u has the in-node 2u and the out-node
  * 2u + 1. */
 #include "reference.h"
@@ -8,6 +9,7 @@
 #include <stdbool.h>
 
 enum { MOST_NODES = 2 * MOST_JOBS, ANSWER_BYTES = 22, ANSWER_KIND = 0x03 };
+enum { FEW = 12 }; /* rounds that are found by a search each */
 enum outcome { WAIT, ABORT_T, ABORT_OTHERS, NOT_YET };
 
 #define HIGHEST_COST ((uint64_t)1 << 42)
@@ -28,6 +30,7 @@ struct flow {
     uint64_t through[MOST_JOBS]; /* the flow through each job */
     uint8_t queue[MOST_NODES];   /* nodes in the order in which they are met */
     uint8_t parent[MOST_NODES];  /* for each place of the queue its parent's */
+    uint64_t levels[MOST_NODES]; /* the jobs that a path can have behind k steps */
     uint64_t on_wait[MOST_PLACES]; /* the flow on the wait u to v at u × n + v */
 };
 
@@ -124,6 +127,46 @@ static unsigned search(const struct snapshot *s, struct flow *f)
     return 0;
 }
 
+/* The levels of the queue up to T's in-node, which is alone in the last. The nodes
+ * of a level lie on one side. */
+static void layer(struct flow *f, unsigned place)
+{
+    unsigned k = 0, side = f->queue[0] % 2;
+    uint64_t met = 0;
+    for (unsigned i = 0; i <= place; i++) {
+        unsigned b = f->queue[i];
+        if (b % 2 != side) {
+            f->levels[k++] = met;
+            met = 0;
+            side = 1 - side;
+        }
+        met |= only(b / 2);
+    }
+    f->levels[k] = only(f->queue[place] / 2);
+}
+
+/* A further path down the levels, lowest nodes first: the place of T's in-node, or
+ * 0 where there is none. Nodes that lead nowhere leave their level. */
+static unsigned descend(const struct snapshot *s, struct flow *f)
+{
+    unsigned sink = 2 * s->t, a = sink + 1, k = 0;
+    f->queue[0] = (uint8_t)a;
+    while (a != sink) {
+        uint64_t rest = f->steps[a] & f->levels[k + 1];
+        if (rest != 0) {
+            a = 2 * lowest(rest) + 1 - a % 2;
+            f->parent[k + 1] = (uint8_t)k;
+            f->queue[++k] = (uint8_t)a;
+        } else if (k != 0) {
+            f->levels[k] ^= only(a / 2);
+            a = f->queue[--k];
+        } else {
+            return 0;
+        }
+    }
+    return k;
+}
+
 /* The largest amount that every step up to `place` allows. */
 static uint64_t amount(const struct snapshot *s, const struct flow *f,
                        unsigned place)
@@ -194,16 +237,24 @@ static struct verdict decide(const struct snapshot *s, struct flow *f,
 {
     struct verdict v = {NOT_YET, 0, 0, 0};
     uint64_t price = 0;
-    unsigned place;
     begin(s, f);
-    while ((place = search(s, f)) != 0) {
-        if (v.rounds == allowance) {
-            return v;
+    unsigned place = search(s, f);
+    while (place != 0) {
+        bool levels = v.rounds >= FEW;
+        if (levels) {
+            layer(f, place);
         }
-        uint64_t pushed = amount(s, f, place);
-        push(s, f, place, pushed);
-        price += pushed;
-        v.rounds++;
+        do {
+            if (v.rounds == allowance) {
+                return v;
+            }
+            uint64_t pushed = amount(s, f, place);
+            push(s, f, place, pushed);
+            price += pushed;
+            v.rounds++;
+            place = levels ? descend(s, f) : 0;
+        } while (place != 0);
+        place = search(s, f);
     }
     if (s->costs[s->t] < price) {
         v.outcome = ABORT_T;

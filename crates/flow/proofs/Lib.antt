@@ -5,5 +5,10 @@ pub mod WayLaws
 pub mod CostLaws
 pub mod StartLaws
 pub mod BeginLaws
+pub mod LayerLaws
+pub mod TurnLaws
+pub mod LastingLaws
+pub mod DescendLaws
 pub mod RunLaws
+pub mod LoopLaws
 pub mod FlowedLaws

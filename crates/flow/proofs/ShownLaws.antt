@@ -5,6 +5,7 @@
 --   Shown r n x S                      the masks show the steps with room, and no step of another job
 --   Changed a b on S S′                the step from a to b is allowed if `on` passes, all others as before
 --   with-step, without-step            so it is after a step is marked, or unmarked
+--   without-other                      unmarking changes no other step, whether this one was there or not
 --   shown-there                        the masks have a step with room
 --   shown-step                         after one step's push the masks show the steps with room again
 --   shown-same                         so it is with rooms that agree
@@ -89,20 +90,22 @@ module _ (S : List ℕ) (a b : ℕ) (size : length S ≡ 128) (la : a < 128) (si
       cases j k (inl h) = h
       cases j k (inr h) = absurd (k (has-pow-cases (b / 2) j h))
 
-  pub without-step : T (step (masked S) a b) → Changed a b false S (withoutStep S a b)
+  pub without-other : Changed a b (step (masked (withoutStep S a b)) a b) S (withoutStep S a b)
   unfolding withoutStep
-  without-step t = changed y false (T-eq (step (masked (set S a y)) a b) false gone (λ t. absurd t))
-      (λ j k h. has-xor (at S a) (2 ^ (b / 2)) j (λ p. subst (λ (z : ℕ). Has (at S a) z) (sym (has-pow-cases (b / 2) j p)) had) h .0)
+  without-other = changed y (step (masked (set S a y)) a b) refl
+      (λ j k h. has-xor (at S a) (2 ^ (b / 2)) j (λ p. absurd (k (has-pow-cases (b / 2) j p))) h .0)
       (λ j k h. xor-has (at S a) (2 ^ (b / 2)) j h (λ p. k (has-pow-cases (b / 2) j p)))
     where
       y : ℕ
       y = bitXor (at S a) (2 ^ (b / 2))
 
-      had : Has (at S a) (b / 2)
-      had = step-parts S a b t .1
-
-      gone : T (step (masked (set S a y)) a b) → ⊥
-      gone s = xor-lacks (at S a) (2 ^ (b / 2)) (b / 2) had (bit-pow-same (b / 2)) (subst (λ (z : ℕ). Has z (b / 2)) (row y) (step-parts (set S a y) a b s .1))
+  pub without-step : T (step (masked S) a b) → Changed a b false S (withoutStep S a b)
+  unfolding withoutStep
+  without-step t = record { size = without-other .size; here = T-eq (step (masked (withoutStep S a b)) a b) false gone (λ f. absurd f); other = without-other .other }
+    where
+      gone : T (step (masked (withoutStep S a b)) a b) → ⊥
+      gone s = xor-lacks (at S a) (2 ^ (b / 2)) (b / 2) (step-parts S a b t .1) (bit-pow-same (b / 2))
+          (subst (λ (z : ℕ). Has z (b / 2)) (row (bitXor (at S a) (2 ^ (b / 2)))) (step-parts (withoutStep S a b) a b s .1))
 
 -- ---- one step of a push
 

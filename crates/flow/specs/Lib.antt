@@ -1,3 +1,4 @@
 pub mod Accepted
 pub mod Flowed
 pub mod Inside
+pub mod Levels

@@ -1,12 +1,13 @@
--- The bytes of a list of numbers: how many they are, those of zeros, and one number put among them.
+-- The bytes of a list of numbers: how many they are, those of two lists, those of zeros, and one number put among them.
 -- Assumes nothing.
 --
 --   all-length     8 bytes a number
+--   all-append     those of one list behind another
 --   all-zero       the bytes of k zeros are 8 * k zeros
 --   all-put        the bytes of a number put at its place
-use mathlib.Core.Path.{_≡_, refl, sym, ap, _∙_, subst}
+use mathlib.Core.Path.{_≡_, refl, sym, ap, _∙_}
 use mathlib.Core.List.{List, [], _∷_, _++_, append-assoc}
-use Prim.Native.Nat.{ℕ, zero, suc, _+_, _*_, _<_, _≤_}
+use Prim.Native.Nat.{ℕ, zero, suc, _+_, _*_, _<_}
 use native.Mathlib.Omega.{arith}
 use lib.ListN.{length, take, drop, set, replicate, length-append}
 use lib.Seq.{take-append-add, drop-append-add}
@@ -18,6 +19,11 @@ pub all-length : (l : List ℕ) → length (allBytes l) ≡ 8 * length l
 unfolding allBytes
 all-length [] = refl
 all-length (x ∷ l) = omega (arith, length-append (bytesOf 8 x) (allBytes l), bytes-length 8 x, all-length l)
+
+pub all-append : (l m : List ℕ) → allBytes (l ++ m) ≡ allBytes l ++ allBytes m
+unfolding allBytes
+all-append [] m = refl
+all-append (x ∷ l) m = ap (λ (z : List ℕ). bytesOf 8 x ++ z) (all-append l m) ∙ sym (append-assoc (bytesOf 8 x) (allBytes l) (allBytes m))
 
 pub all-zero : (k : ℕ) → allBytes (replicate k 0) ≡ replicate (8 * k) 0
 unfolding allBytes bytesOf

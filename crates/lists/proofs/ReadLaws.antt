@@ -4,13 +4,13 @@
 --   numbers-length     the first k numbers are k
 --   numbers-snoc       one more at the end
 --   Reading            the loop's invariant; reading-start, reading-turn, reading-end
-use mathlib.Core.Path.{_≡_, refl, sym, ap, _∙_, subst}
+use mathlib.Core.Path.{_≡_, refl, sym, ap, _∙_}
 use mathlib.Core.List.{List, [], _∷_, _++_, append-nil}
 use Prim.Native.Nat.{ℕ, zero, suc, _+_, _*_, _<_, _≤_, zero-le}
 use native.Mathlib.Nat.{add-assoc}
 use native.Mathlib.Numerals.{add-one}
 use native.Mathlib.Omega.{arith}
-use lib.ListN.{getD, drop, take, set, length, length-set}
+use lib.ListN.{getD, drop, set, length, length-set}
 use lib.Seq.{getD-drop, drop-cons, set-at, append-snoc, drop-length}
 use Rattle.codec.specs.Bytes.{numberAt}
 use Rattle.lists.specs.Numbers.{numbers}

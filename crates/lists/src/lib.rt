@@ -8,7 +8,7 @@ ghost use mathlib.Core.Path.{_≡_};
 ghost use mathlib.Core.Bool.{true};
 ghost use mathlib.Core.List.{_++_};
 ghost use Prim.Native.Nat.{_+_, _*_, _≤_};
-ghost use lib.ListN.{length, drop, replicate};
+ghost use lib.ListN.{length, take, drop, replicate};
 ghost use Rattle.lists.specs.Numbers.{numbers, allBytes, Readable};
 ghost use Rattle.lists.specs.Inside.{written, Writable, Zeros};
 
@@ -26,14 +26,14 @@ pub fn read_lists(rows: &[u8], costs: &[u8], row_list: &mut [u64], cost_list: &m
     }
 }
 
-// Zeroes the first k bytes.
-fn clear(bytes: &mut [u8], k: usize)
-    requires { ⌜ k ≤ length (now bytes) ⌝ }
-    ensures { λ _. ⌜ now (bytes .exit) ≡ replicate k 0 ++ drop k (now (bytes .entry)) ⌝ }
+// Zeroes k bytes from a place on.
+fn clear(bytes: &mut [u8], at: usize, k: usize)
+    requires { ⌜ at + k ≤ length (now bytes) ⌝ }
+    ensures { λ _. ⌜ now (bytes .exit) ≡ take at (now (bytes .entry)) ++ replicate k 0 ++ drop (at + k) (now (bytes .entry)) ⌝ }
 {
     let mut i = 0;
     while i < k {
-        bytes[i] = 0;
+        bytes[at + i] = 0;
         i += 1;
     }
 }
@@ -43,7 +43,7 @@ pub fn write_zeros(count: usize, bytes: &mut [u8])
     requires { ⌜ 8 * count ≤ length (now bytes) ⌝ }
     ensures { λ _. ⌜ now (bytes .exit) ≡ allBytes (replicate count 0) ++ drop (8 * count) (now (bytes .entry)) ⌝ }
 {
-    clear(bytes, 8 * count);
+    clear(bytes, 0, 8 * count);
 }
 
 // Whether the 8 numbers from a place on are 0.
@@ -66,7 +66,7 @@ fn blank_eight(list: &[u64], at: usize) -> bool
 // Writes the numbers at the places from `at` to below `end` that are above 0, over bytes that are 0.
 fn write_part(list: &[u64], at: usize, end: usize, bytes: &mut [u8])
     requires { ⌜ Writable (now list) at end (now bytes) ⌝ }
-    ensures { λ _. ⌜ now (bytes .exit) ≡ written (now (list .entry)) end (now (bytes .entry)) ⌝ }
+    ensures { λ _. ⌜ now (bytes .exit) ≡ written (now (list .entry)) end end (now (bytes .entry)) ⌝ }
 {
     let mut i = at;
     while i < end {
@@ -92,7 +92,8 @@ fn write_each(list: &[u64], bytes: &mut [u8])
     }
 }
 
-// Writes the bytes of a list of numbers at the front of a list of bytes.
+// Writes the bytes of a list of numbers at the front of a list of bytes. Where they are many, the bytes of eight numbers are zeroed
+// just before these are looked at, so that a number that is 0 needs no more.
 pub fn write_numbers(list: &[u64], bytes: &mut [u8])
     requires { ⌜ 8 * length (now list) ≤ length (now bytes) ⌝ }
     ensures { λ _. ⌜ now (bytes .exit) ≡ allBytes (now (list .entry)) ++ drop (8 * length (now (list .entry))) (now (bytes .entry)) ⌝ }
@@ -102,13 +103,14 @@ pub fn write_numbers(list: &[u64], bytes: &mut [u8])
         write_each(list, bytes);
         return;
     }
-    clear(bytes, 8 * n);
     let mut i = 0;
     while i + 8 <= n {
+        clear(bytes, 8 * i, 64);
         if !blank_eight(list, i) {
             write_part(list, i, i + 8, bytes);
         }
         i += 8;
     }
+    clear(bytes, 8 * i, 8 * (n - i));
     write_part(list, i, n, bytes);
 }

@@ -6,7 +6,8 @@
 --                                    at the sink; the step that leads to place i; one step up; at the source
 --   Climbing                         the invariant of `amount`: d is the most that the steps behind place i allow
 --   Rising                           the invariant of `push`: d is pushed along the steps behind place i
---   amount-unique, pushed-unique     two results are equal
+--   amount-unique, pushed-unique, rounded-unique
+--                                    two results are equal
 use mathlib.Core.Path.{_≡_, refl, sym, ap, _∙_, subst}
 use mathlib.Core.Logic.{_≢_}
 use mathlib.Core.List.{List, [], _∷_, _++_, append-nil}
@@ -22,7 +23,7 @@ use Rattle.search.specs.Sought.{Leads}
 use Rattle.search.proofs.LeadsLaws.{leads-up, leads-top, leads-same}
 use Rattle.push.specs.Reading.{reads, Readable}
 use Rattle.push.specs.Advance.{Advanceable, Advanced}
-use Rattle.push.specs.Way.{On, Way, Measurable, Amount, Pushed, Pushable, PushedAlong}
+use Rattle.push.specs.Way.{On, Way, Measurable, Amount, Pushed, Pushable, PushedAlong, Roundable, Rounded}
 use Rattle.push.specs.Way.Pushed.{none, more}
 use Rattle.push.proofs.AdvanceLaws.{shifted-size, advanced-unique}
 
@@ -155,3 +156,10 @@ pub pushed-unique : (costs : List ℕ) (wide : ℕ) (F G S qs ps : List ℕ) (e 
     → PushedAlong costs wide F G S qs ps e d F′ G′ S′ → PushedAlong costs wide F G S qs ps e d F″ G″ S″ → (F′ ≡ F″) × (G′ ≡ G″) × (S′ ≡ S″)
 pushed-unique costs wide F G S qs ps e d F′ G′ S′ F″ G″ S″ P x y =
     along-unique costs wide d F G S (at qs 0) (P .nodes) F′ G′ S′ F″ G″ S″ (x .pushed (P .nodes) (P .way .leads)) (y .pushed (P .nodes) (P .way .leads))
+
+pub rounded-unique : (costs : List ℕ) (wide : ℕ) (F G S qs ps : List ℕ) (e : ℕ) (F′ G′ S′ F″ G″ S″ : List ℕ) → Roundable costs wide F G S qs ps e
+    → Rounded costs wide F G S qs ps e F′ G′ S′ → Rounded costs wide F G S qs ps e F″ G″ S″ → (F′ ≡ F″) × (G′ ≡ G″) × (S′ ≡ S″)
+rounded-unique costs wide F G S qs ps e F′ G′ S′ F″ G″ S″ R x y =
+    let same = amount-unique costs wide F G qs ps e (x .amount) (y .amount) (R .measurable) (x .most) (y .most) in
+    pushed-unique costs wide F G S qs ps e (y .amount) F′ G′ S′ F″ G″ S″ (R .pushable (y .amount) (y .most))
+    (subst (λ (d : ℕ). PushedAlong costs wide F G S qs ps e d F′ G′ S′) same (x .pushed)) (y .pushed)

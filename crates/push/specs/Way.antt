@@ -7,6 +7,7 @@
 --   Pushed costs wide d F G S a p F′ G′ S′
 --                                  d is pushed along the path p from a, its last step first: the lists F, G, S (as in `Advance`) become F′, G′, S′
 --   Pushable, PushedAlong          what `push` is given: each step of the way has room for d when the steps behind it have taken theirs. What it leaves
+--   Roundable, Rounded             what `round` is given: a way that can be read, and that has room for the largest amount. What it leaves: that amount, pushed along it
 use mathlib.Core.Path.{_≡_}
 use mathlib.Core.Logic.{_≢_}
 use mathlib.Core.List.{List, [], _∷_, _++_}
@@ -55,3 +56,14 @@ pub record Pushable (costs : List ℕ) (wide : ℕ) (F G S qs ps : List ℕ) (e 
 
 pub record PushedAlong (costs : List ℕ) (wide : ℕ) (F G S qs ps : List ℕ) (e d : ℕ) (F′ G′ S′ : List ℕ) : Type 0 where
   pub pushed : (p : List ℕ) → Leads qs ps e p → Pushed costs wide d F G S (at qs 0) p F′ G′ S′
+
+-- ---- the round
+
+pub record Roundable (costs : List ℕ) (wide : ℕ) (F G S qs ps : List ℕ) (e : ℕ) : Type 0 where
+  pub measurable : Measurable costs wide F G qs ps e
+  pub pushable : (d : ℕ) → Amount costs wide F G qs ps e d → Pushable costs wide F G S qs ps e d
+
+pub record Rounded (costs : List ℕ) (wide : ℕ) (F G S qs ps : List ℕ) (e : ℕ) (F′ G′ S′ : List ℕ) : Type 0 where
+  pub amount : ℕ
+  pub most : Amount costs wide F G qs ps e amount
+  pub pushed : PushedAlong costs wide F G S qs ps e amount F′ G′ S′

@@ -1,10 +1,10 @@
 // One round's amount and its push, up the parents that the search has left.
 // The flow on the waits is in the work list, the flow through each job in `thru`, and `steps` has the masks of the steps with room.
-// Both public functions say what they give in terms of these lists; `flow` turns that into rooms and rounds.
+// The public function says what it leaves in terms of these lists; `flow` turns that into rooms and rounds.
 ghost use mathlib.Core.Path.{_≡_};
 ghost use Rattle.push.specs.Reading.{reads, Readable};
 ghost use Rattle.push.specs.Advance.{Shiftable, Shifted, Markable, Unmarkable, withStep, withoutStep, Advanceable, Advanced};
-ghost use Rattle.push.specs.Way.{Measurable, Amount, Pushable, PushedAlong};
+ghost use Rattle.push.specs.Way.{Measurable, Amount, Pushable, PushedAlong, Roundable, Rounded};
 
 // The room of the step from node a to node b.
 fn room(costs: &[u64], wide: u64, work: &[u64], thru: &[u64; 64], a: usize, b: usize) -> u64
@@ -91,7 +91,7 @@ fn advance(
 }
 
 // The largest amount that every step of the way from place e up the parents allows.
-pub fn amount(
+fn amount(
     costs: &[u64],
     wide: u64,
     work: &[u64],
@@ -121,7 +121,7 @@ pub fn amount(
 }
 
 // d pushed along the way from place e up the parents.
-pub fn push(
+fn push(
     costs: &[u64],
     wide: u64,
     work: &mut [u64],
@@ -143,4 +143,22 @@ pub fn push(
         advance(costs, wide, work, thru, steps, a, b, d);
         i = p;
     }
+}
+
+// One round along the way from place e up the parents: the largest amount that every step of it allows is pushed.
+pub fn round(
+    costs: &[u64],
+    wide: u64,
+    work: &mut [u64],
+    thru: &mut [u64; 64],
+    steps: &mut [u64; 128],
+    queue: &[u8; 128],
+    parent: &[u8; 128],
+    e: usize,
+)
+    requires { ⌜ Roundable (now costs) wide (now work) (now thru) (now steps) (now queue) (now parent) e ⌝ }
+    ensures { λ _. ⌜ Rounded (now (costs .entry)) wide (now (work .entry)) (now (thru .entry)) (now (steps .entry)) (now (queue .entry)) (now (parent .entry)) e (now (work .exit)) (now (thru .exit)) (now (steps .exit)) ⌝ }
+{
+    let d = amount(costs, wide, work, thru, queue, parent, e);
+    push(costs, wide, work, thru, steps, queue, parent, e, d);
 }

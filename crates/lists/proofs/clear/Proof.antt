@@ -1,5 +1,5 @@
 use native.Mathlib.Omega.{arith}
--- `lists::clear`. Invariant: the first i bytes are 0, the rest as they were.
+-- `lists::clear`. Invariant: i bytes from `at` on are 0, the rest as they were.
 use Prim.Native.Nat.{_-_}
 use Rattle.lists.proofs.WriteLaws.{Clearing, clearing-start, clearing-turn, clearing-end}
 use Rattle.lists.proofs.clear.Statement.{statement}
@@ -8,13 +8,16 @@ use Rattle.lists.proofs.clear.Reads as reads
 use Rattle.lists.proofs.clear.Lts as lts
 
 abbrev Inv-loop : tie.InvT-loop
-Inv-loop bytes₀ k i₀ bytes i = Clearing k bytes₀ bytes i
+Inv-loop bytes₀ at k i₀ bytes i = Clearing at k bytes₀ bytes i
 
 abbrev μ-loop : tie.MeasureT-loop
-μ-loop bytes₀ k i₀ bytes i = k - i
+μ-loop bytes₀ at k i₀ bytes i = k - i
 
 loop-holds : tie.Need-loop-holds Inv-loop μ-loop
-loop-holds c = clearing-start _ _
+loop-holds c = clearing-start _ _ _
+
+add-bytes : tie.Need-add-bytes Inv-loop μ-loop
+add-bytes c = omega arith
 
 slice-write-bytes : tie.Need-slice-write-bytes Inv-loop μ-loop
 slice-write-bytes c = omega arith
@@ -26,13 +29,13 @@ loop-less : tie.Need-loop-less Inv-loop μ-loop
 loop-less c = omega arith
 
 loop-again : tie.Need-loop-again Inv-loop μ-loop
-loop-again c = clearing-turn _ _ _ _ (c .before .before .pre) (omega arith) (c .before .loop .inv)
+loop-again c = clearing-turn _ _ _ _ _ (c .before .before .pre) (omega arith) (c .before .loop .inv)
 
 same-length : tie.Need-same-length Inv-loop μ-loop
 same-length c = omega arith
 
 returns : tie.Need-returns Inv-loop μ-loop
-returns c = clearing-end _ _ _ _ (omega arith) (c .before .loop .inv)
+returns c = clearing-end _ _ _ _ _ (omega arith) (c .before .loop .inv)
 
 pub clear-spec : {M : Type 1} → statement M
 clear-spec =
@@ -41,6 +44,7 @@ clear-spec =
     Inv-loop
     μ-loop
     loop-holds
+    add-bytes
     slice-write-bytes
     add-i
     loop-less

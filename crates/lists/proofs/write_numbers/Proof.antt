@@ -1,10 +1,12 @@
 use native.Mathlib.Omega.{arith}
--- `lists::write_numbers`. Invariant: the numbers below i are written into the bytes zeroed before.
+-- `lists::write_numbers`. Invariant: the first i numbers are written, the rest is as it was.
 use Prim.Native.Nat.{_-_}
-use mathlib.Core.Path.{_∙_}
-use mathlib.Core.Logic.{inl, inr, ⊎-elim}
+use native.Mathlib.Nat.{le-refl}
+use mathlib.Core.Path.{refl, _∙_}
+use mathlib.Core.Logic.{⊎-elim}
 use borrow.Author.Tests.{not-false}
-use Rattle.lists.proofs.WriteLaws.{Writing, writing-start, writing-asks, writing-part, writing-rest, writing-all}
+use Rattle.lists.proofs.EachLaws.{Each, each-start, each-end}
+use Rattle.lists.proofs.WriteLaws.{writing-cleared, writing-cleared-rest, writing-asks, writing-part, writing-blank}
 use Rattle.lists.proofs.write_numbers.Statement.{statement}
 use Rattle.lists.proofs.write_numbers.Tie as tie
 use Rattle.lists.proofs.write_numbers.Reads as reads
@@ -15,7 +17,7 @@ use Rattle.lists.proofs.write_each.Reads as write-each-reads
 use Rattle.lists.proofs.write_part.Reads as write-part-reads
 
 abbrev Inv-loop : tie.InvT-loop
-Inv-loop list bytes₀ n i₀ bytes i = Writing list bytes₀ bytes n i
+Inv-loop list bytes₀ n i₀ bytes i = Each list bytes₀ bytes i
 
 abbrev μ-loop : tie.MeasureT-loop
 μ-loop list bytes₀ n i₀ bytes i = n - i
@@ -29,17 +31,17 @@ same-length c = omega arith
 returns : tie.Need-returns Inv-loop μ-loop
 returns c = c .before .before .write-each .ensures
 
+loop-holds : tie.Need-loop-holds Inv-loop μ-loop
+loop-holds c = each-start _ _
+
+add-loop : tie.Need-add-loop Inv-loop μ-loop
+add-loop c = omega arith
+
 mul-clear : tie.Need-mul-clear Inv-loop μ-loop
 mul-clear c = omega arith
 
 clear-requires : tie.Need-clear-requires Inv-loop μ-loop
 clear-requires c κs = omega arith
-
-loop-holds : tie.Need-loop-holds Inv-loop μ-loop
-loop-holds c = writing-start _ _ _ (c .before .before .clear .ensures) (omega arith)
-
-add-loop : tie.Need-add-loop Inv-loop μ-loop
-add-loop c = omega arith
 
 blank-eight-requires : tie.Need-blank-eight-requires Inv-loop μ-loop
 blank-eight-requires c κs = omega arith
@@ -48,7 +50,9 @@ add-write-part : tie.Need-add-write-part Inv-loop μ-loop
 add-write-part c = omega arith
 
 write-part-requires : tie.Need-write-part-requires Inv-loop μ-loop
-write-part-requires c κs = writing-asks _ _ _ _ _ (c .before .before .before .before .loop .inv) _ (omega arith) (omega arith)
+write-part-requires c κs =
+    let l = c .before .before .before .before .before .before .before .before in
+    writing-asks _ _ _ _ _ (writing-cleared _ _ _ _ _ (l .before .before .before .before .pre) (l .loop .inv) 8 _ (c .before .before .before .before .before .clear .ensures) refl (omega arith))
 
 add-i : tie.Need-add-i Inv-loop μ-loop
 add-i c = omega arith
@@ -58,20 +62,35 @@ loop-less c = omega arith
 
 loop-again : tie.Need-loop-again Inv-loop μ-loop
 loop-again c =
-    let l = c .before .before .before .loop in
-    writing-part _ _ _ _ _ (l .inv) _ 8 (omega arith) (⊎-elim (λ w. inl (w .5 ∙ w .2 .ensures)) (λ w. inr (c .before .blank-eight .ensures (not-false _ (w .0 .left)), w .1)) (c .if2 .came))
+    let l = c .before .before .before .before .before .before .before in
+    let w = writing-cleared _ _ _ _ _ (l .before .before .before .before .pre) (l .loop .inv) 8 _ (c .before .before .before .before .clear .ensures) refl (omega arith) in
+    ⊎-elim (λ v. writing-part _ _ _ _ _ w _ (v .5 ∙ v .2 .ensures)) (λ v. writing-blank _ _ _ _ _ w _ 8 refl (c .before .blank-eight .ensures (not-false _ (v .0 .left))) (v .1)) (c .if2 .came)
+
+mul-clear-2 : tie.Need-mul-clear-2 Inv-loop μ-loop
+mul-clear-2 c = omega arith
+
+sub-clear : tie.Need-sub-clear Inv-loop μ-loop
+sub-clear c = omega arith
+
+mul-clear-3 : tie.Need-mul-clear-3 Inv-loop μ-loop
+mul-clear-3 c = omega arith
+
+clear-requires-2 : tie.Need-clear-requires-2 Inv-loop μ-loop
+clear-requires-2 c κs = omega arith
 
 write-part-requires-2 : tie.Need-write-part-requires-2 Inv-loop μ-loop
-write-part-requires-2 c κs = writing-asks _ _ _ _ _ (c .before .before .loop .inv) _ (omega arith) (omega arith)
+write-part-requires-2 c κs =
+    let l = c .before .before .before .before .before .before in
+    writing-asks _ _ _ _ _ (writing-cleared-rest _ _ _ _ _ (l .before .before .before .before .pre) (l .loop .inv) (c .before .before .before .clear2 .ensures))
 
 same-length-2 : tie.Need-same-length-2 Inv-loop μ-loop
 same-length-2 c = omega arith
 
 returns-2 : tie.Need-returns-2 Inv-loop μ-loop
 returns-2 c =
-    let l = c .before .before .before .before .before .loop in
-    let z = c .before .before .before .before .before .before .before .before in
-    writing-all _ _ _ (z .clear .ensures) _ (writing-rest _ _ _ _ _ (l .inv) _ (c .before .before .write-part2 .ensures))
+    let l = c .before .before .before .before .before .before .before .before .before in
+    let w = writing-cleared-rest _ _ _ _ _ (l .before .before .before .before .pre) (l .loop .inv) (c .before .before .before .before .before .before .clear2 .ensures) in
+    each-end _ _ _ _ (writing-part _ _ _ _ _ w _ (c .before .before .write-part2 .ensures)) (le-refl _)
 
 pub write-numbers-spec : {M : Type 1} → statement M
 write-numbers-spec =
@@ -82,16 +101,20 @@ write-numbers-spec =
     write-each-requires
     same-length
     returns
-    mul-clear
-    clear-requires
     loop-holds
     add-loop
+    mul-clear
+    clear-requires
     blank-eight-requires
     add-write-part
     write-part-requires
     add-i
     loop-less
     loop-again
+    mul-clear-2
+    sub-clear
+    mul-clear-3
+    clear-requires-2
     write-part-requires-2
     same-length-2
     returns-2)
