@@ -32,8 +32,8 @@ enum {
     PASAGUMDIL_LINE_BYTES = 45,   /* bytes of the longest line, its feed with it */
 
     /* Stack to keep free for a call, whatever it is given. It takes less: up to
-     * 3,500 bytes for 8 jobs, 5,000 for 16, 11,500 for 32, 36,500 for 64, and
-     * 37,500 for a text. */
+     * 4,500 bytes for 8 jobs, 6,000 for 16, 12,500 for 32, 23,000 for 48, 37,500
+     * for 64, and 38,500 for a text. */
     PASAGUMDIL_STACK_BYTES = 40960
 };
 

@@ -1,5 +1,5 @@
-/* How much stack a call of the C entry takes. Prints the bytes for 8, 16, 32 and
- * 64 jobs, and for a text of 64 jobs, and ends with 1 where a call takes more
+/* How much stack a call of the C entry takes. Prints the bytes for 8, 16, 32, 48
+ * and 64 jobs, and for a text of 64 jobs, and ends with 1 where a call takes more
  * than PASAGUMDIL_STACK_BYTES. x86-64. */
 #include "painted.h"
 #include "pasagumdil.h"
@@ -55,13 +55,14 @@ static void call_text(void)
 
 int main(void)
 {
+    static const size_t sizes[] = {8, 16, 32, 48, 64};
     int bad = 0;
     size_t taken;
     printf("stack:");
-    for (size_t n = 8; n <= 64; n *= 2) {
-        make_lists(n);
+    for (size_t i = 0; i < sizeof sizes / sizeof sizes[0]; i++) {
+        make_lists(sizes[i]);
         taken = stack_of(call);
-        printf(" %zu bytes for %zu jobs,", taken, n);
+        printf(" %zu bytes for %zu jobs,", taken, sizes[i]);
         bad |= answer[0] != 3 || taken > PASAGUMDIL_STACK_BYTES;
     }
     make_text();

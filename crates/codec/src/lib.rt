@@ -50,9 +50,10 @@ pub fn put_answer(a: Answer, bytes: &mut [u8])
     requires { ⌜ 22 ≤ length (now bytes) ⌝ }
     ensures { λ _. ⌜ now (bytes .exit) ≡ answerBytes a ++ drop 22 (now (bytes .entry)) ⌝ }
 {
-    bytes[0] = Answer::KIND;
-    bytes[1] = a.outcome;
+    // the price comes first: four stores of the first number written are joined into one
     put_number(bytes, 2, 8, a.price);
     put_number(bytes, 10, 4, a.rounds as u64);
     put_number(bytes, 14, 8, a.victims);
+    bytes[0] = Answer::KIND;
+    bytes[1] = a.outcome;
 }

@@ -47,6 +47,9 @@ pub extern "C" fn pasagumdil_verdict(
     if n <= 32 {
         return relay::call_32(rows, costs, n, job, allowance, work, answer);
     }
+    if n <= 48 {
+        return relay::call_48(rows, costs, n, job, allowance, work, answer);
+    }
     relay::call_64(rows, costs, n, job, allowance, work, answer)
 }
 

@@ -1,6 +1,6 @@
 // The verdict call on lists of bytes whose shape is checked: the numbers are read, the call is made, and its answer is written.
 //
-// `call_8`, `call_16`, `call_32` and `call_64` leave the answer frame at the front of the answer bytes and the flows at the front of the work bytes,
+// `call_8`, `call_16`, `call_32`, `call_48` and `call_64` leave the answer frame at the front of the answer bytes and the flows at the front of the work bytes,
 // or return a refusal of 4 to 8 and write nothing. Each has lists of numbers for so many jobs; those of the flows are made only where there is a ring.
 use verdict::Decision;
 use verdict::Outcome;
@@ -194,6 +194,47 @@ pub fn call_32(
         return s.refusal;
     }
     let mut flows = [0u64; 1024];
+    open(
+        &row_list[..n],
+        &cost_list[..n],
+        t,
+        s.x,
+        allowance,
+        &mut flows[..n * n],
+        work,
+        answer,
+    );
+    0
+}
+
+// The call with at most 48 jobs.
+pub fn call_48(
+    rows: &[u8],
+    costs: &[u8],
+    n: usize,
+    t: usize,
+    allowance: u32,
+    work: &mut [u8],
+    answer: &mut [u8],
+) -> u8
+    requires { ⌜ Sized (now rows) (now costs) (length (now work)) (length (now answer)) n 48 ⌝ }
+    ensures { λ r. ⌜ Entered (now (rows .entry)) (now (costs .entry)) t allowance (now (work .entry)) (now (answer .entry)) r (now (work .exit)) (now (answer .exit)) ⌝ }
+{
+    let mut row_list = [0u64; 48];
+    let mut cost_list = [0u64; 48];
+    let s = start(
+        rows,
+        costs,
+        t,
+        &mut row_list[..n],
+        &mut cost_list[..n],
+        work,
+        answer,
+    );
+    if s.x == 0 {
+        return s.refusal;
+    }
+    let mut flows = [0u64; 2304];
     open(
         &row_list[..n],
         &cost_list[..n],

@@ -83,8 +83,8 @@ same-length-6 c = omega arith
 returns-9 : tie.Need-returns-9
 returns-9 c = c .before .before .before .before .call-32 .ensures
 
-call-64-requires : tie.Need-call-64-requires
-call-64-requires c κs = let s = shape (c .before .before .before .before .before) in record { shape = s; count = refl; limit = s .few }
+call-48-requires : tie.Need-call-48-requires
+call-48-requires c κs = record { shape = shape (c .before .before .before .before .before .before); count = refl; limit = c .before .before .if10 .taken }
 
 same-length-7 : tie.Need-same-length-7
 same-length-7 c = omega arith
@@ -93,7 +93,19 @@ same-length-8 : tie.Need-same-length-8
 same-length-8 c = omega arith
 
 returns-10 : tie.Need-returns-10
-returns-10 c = c .before .before .before .before .call-64 .ensures
+returns-10 c = c .before .before .before .before .call-48 .ensures
+
+call-64-requires : tie.Need-call-64-requires
+call-64-requires c κs = let s = shape (c .before .before .before .before .before .before) in record { shape = s; count = refl; limit = s .few }
+
+same-length-9 : tie.Need-same-length-9
+same-length-9 c = omega arith
+
+same-length-10 : tie.Need-same-length-10
+same-length-10 c = omega arith
+
+returns-11 : tie.Need-returns-11
+returns-11 c = c .before .before .before .before .call-64 .ensures
 
 pub pasagumdil-verdict-spec : {M : Type 1} → statement M
 pasagumdil-verdict-spec =
@@ -118,7 +130,11 @@ pasagumdil-verdict-spec =
     same-length-5
     same-length-6
     returns-9
-    call-64-requires
+    call-48-requires
     same-length-7
     same-length-8
-    returns-10)
+    returns-10
+    call-64-requires
+    same-length-9
+    same-length-10
+    returns-11)
