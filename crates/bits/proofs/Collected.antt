@@ -14,7 +14,7 @@ use native.Mathlib.Omega.{arith}
 use borrow.Author.Count.{below-more}
 use lib.Bits.{bitOr, or-lt}
 use lib.Pow.{pow-lt, pow-pos}
-use Rattle.bits.specs.Mask.{bit, Has, MaskOf}
+use Rattle.bits.specs.Mask.{Has, MaskOf}
 use Rattle.bits.proofs.Digits.{bit-zero, bit-pow-same}
 use Rattle.bits.proofs.Masks.{has-or-l, has-or-r, has-or-cases, has-pow-cases}
 

@@ -8,7 +8,7 @@
 --   one-shl                      1 << u is 2 ^ u
 --   bit-ext                      numbers below 2 ^ k with the same digits are equal
 use mathlib.Core.Path.{_≡_, refl, sym, ap, _∙_, subst}
-use Prim.Native.Nat.{ℕ, zero, suc, _+_, _*_, _/_, _%_, _^_, _<_, zero-le, suc-le-suc, min, max}
+use Prim.Native.Nat.{ℕ, zero, suc, _*_, _/_, _%_, _^_, _<_, zero-le, suc-le-suc, min, max}
 use native.Mathlib.Nat.{le-of-suc-le-suc, not-suc-le-zero, mod-lt, pow-suc, zero-lt-suc, one-mul, zero-div, div-one, mul-div-cancel, mul-mod-left}
 use native.Mathlib.Omega.{arith}
 use native.Mathlib.Numerals.{add-one, one-add}

@@ -11,12 +11,12 @@
 --   mask-same, mask-or                     a mask of what is the same, of one of two
 use mathlib.Core.Path.{_≡_, refl, sym, ap, _∙_, subst}
 use mathlib.Core.Logic.{_⊎_, inl, inr, ⊎-elim}
-use Prim.Native.Nat.{ℕ, zero, suc, _+_, _-_, _*_, _/_, _%_, _^_, _≤_, _<_, max}
+use Prim.Native.Nat.{ℕ, zero, suc, _-_, _/_, _^_, _≤_, _<_, max}
 use native.Mathlib.Nat.{le-of-suc-le-suc, not-suc-le-zero, pow-suc}
 use native.Mathlib.Omega.{arith}
 use native.Mathlib.Decide.{ℕ-discrete}
 use lib.Pow.{pow-pos}
-use lib.Bits.{bitAnd, bitOr, bitXor, differ, or-add-and, and-le-r, and-lt, or-lt}
+use lib.Bits.{bitAnd, bitOr, bitXor, differ, or-add-and, and-le-r, or-lt}
 use lib.Dec.{T, eqb, eqb→eq}
 use Rattle.bits.specs.Mask.{bit, Has, has, MaskOf}
 use Rattle.bits.proofs.Digits.{bit-lt, bit-zero, bit-or, bit-and, bit-xor, bit-here, bit-suc, bit-pow-other, bit-ext}

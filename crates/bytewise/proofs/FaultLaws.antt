@@ -10,10 +10,10 @@
 --   shaped                   after all byte checks the lists have their shape
 --   refuse-number            a refusal of the verdict call on the numbers is due here too
 --   shaped-faultless         and where that call has no fault there is none here
-use mathlib.Core.Path.{_≡_, refl, sym, ap, _∙_, subst}
+use mathlib.Core.Path.{_≡_, sym, ap, _∙_, subst}
 use mathlib.Core.Logic.{_≢_}
 use mathlib.Core.List.{List}
-use Prim.Native.Nat.{ℕ, suc, _*_, _/_, _%_, _<_, _≤_}
+use Prim.Native.Nat.{ℕ, _*_, _/_, _%_, _<_, _≤_}
 use native.Mathlib.Nat.{le-refl, mul-le-mul}
 use native.Mathlib.Omega.{arith}
 use native.Mathlib.Decide.{ℕ-discrete, decLt}
@@ -22,7 +22,6 @@ use Rattle.lists.specs.Numbers.{numbersOf}
 use Rattle.lists.proofs.ReadLaws.{numbers-length}
 use Rattle.checks.specs.Refusals.{Fault, Refusal, Faultless}
 use Rattle.checks.specs.Refusals.Fault.{empty, crowded, uneven, short, stray, looped, absent, free, dear, heavy}
-use Rattle.checks.proofs.RefusalLaws.{fault-range}
 use Rattle.bytewise.specs.Faults.{EntryFault, EntryRefusal, EntryFaultless, Shaped}
 use Rattle.bytewise.specs.Faults.EntryFault.{brokenRows, brokenCosts, narrow, ofNumbers}
 

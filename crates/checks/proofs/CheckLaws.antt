@@ -5,13 +5,12 @@
 --   Added costs k s     the costs below k are in range, and s is their sum; added-start, added-turn, added-fits, added-zero, added-dear, added-end
 --   summed-small        what the sum of all costs is at most
 use mathlib.Core.Path.{_≡_, refl, sym, ap, _∙_, subst}
-use mathlib.Core.Logic.{_⊎_, inl, inr}
+use mathlib.Core.Logic.{inl, inr}
 use mathlib.Core.Bool.{true, false}
 use mathlib.Core.List.{List}
-use Prim.Native.Nat.{ℕ, suc, _+_, _*_, _/_, _%_, _^_, _<_, _≤_, zero-le}
+use Prim.Native.Nat.{ℕ, _+_, _*_, _/_, _%_, _^_, _<_, _≤_, zero-le}
 use native.Mathlib.Omega.{arith}
 use native.Mathlib.Numerals.{suc-eq-add-one}
-use native.Mathlib.Decide.{decLt}
 use borrow.Author.Count.{below-more}
 use lib.Dec.{T}
 use lib.ListN.{length, getD}

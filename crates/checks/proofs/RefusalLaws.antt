@@ -7,12 +7,12 @@
 --   due-refused, due-none   what a number says that is due, above 0 and 0
 --   due-unique           two results of `refusal` are equal
 --   faultless-..         what an input without faults is, fault by fault
-use mathlib.Core.Path.{_≡_, refl, sym, subst}
+use mathlib.Core.Path.{_≡_, refl}
 use mathlib.Core.Logic.{_≢_}
 use mathlib.Core.List.{List}
 use Prim.Native.Nat.{ℕ, suc, _*_, _^_, _<_, _≤_}
 use native.Mathlib.Omega.{arith}
-use native.Mathlib.Decide.{ℕ-discrete, decLt, decLe}
+use native.Mathlib.Decide.{ℕ-discrete, decLt}
 use lib.Dec.{T}
 use lib.ListN.{length}
 use Rattle.sums.specs.Sum.{sum}

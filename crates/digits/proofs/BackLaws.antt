@@ -5,17 +5,16 @@
 --   spell-at         digit i of k
 --   number-back      a number is read from its digits, wherever they stand
 --   number-spell     a number spelt in 2k digits is read back as k bytes
-use mathlib.Core.Path.{_≡_, refl, sym, ap, _∙_, subst}
-use mathlib.Core.Bool.{Bool, true, false, cond}
-use mathlib.Core.List.{List, [], _∷_, _++_}
+use mathlib.Core.Path.{_≡_, refl, sym, ap, _∙_}
+use mathlib.Core.Bool.{true}
+use mathlib.Core.List.{List}
 use Prim.Native.Nat.{ℕ, zero, suc, _+_, _*_, _-_, _/_, _%_, _^_, _<_, _≤_}
 use native.Mathlib.Nat.{zero-add, pow-suc, div-div-eq-div-mul, div-one, mod-lt, one-le-pow}
 use native.Mathlib.Decide.{decLt}
 use native.Mathlib.Omega.{arith}
-use borrow.Author.Tests.{lt-ltb, le-ltb}
 use lib.Arith.{mod-mul}
 use lib.Dec.{lit<}
-use lib.ListN.{length, getD}
+use lib.ListN.{getD}
 use Rattle.digits.specs.Digits.{isDigit, digit, byteAt, number}
 use Rattle.digits.specs.Spell.{spelt, spell}
 use Rattle.digits.proofs.DigitLaws.{decimal, letter}

@@ -6,14 +6,14 @@
 --   Spelling, spelling-..          the writing of k digits to a base: its invariant, its start, a turn, its end
 --   part-next                      the next part behind what is written
 --   spell-length                   k digits are k long
-use mathlib.Core.Path.{_≡_, refl, sym, ap, _∙_, subst}
+use mathlib.Core.Path.{_≡_, refl, sym, ap, _∙_}
 use mathlib.Core.List.{List, [], _∷_, _++_, append-assoc}
-use Prim.Native.Nat.{ℕ, zero, suc, _+_, _*_, _-_, _/_, _%_, _^_, _<_, _≤_}
+use Prim.Native.Nat.{ℕ, zero, suc, _+_, _-_, _/_, _%_, _^_, _<_, _≤_}
 use native.Mathlib.Nat.{pow-zero, pow-suc, div-div-eq-div-mul, div-one}
 use native.Mathlib.Omega.{arith}
 use borrow.Author.Tests.{lt-ltb, le-ltb}
-use lib.ListN.{length, getD, take, drop, set, length-set, length-append, take-append-drop}
-use lib.Seq.{take-suc, set-at, append-snoc, length-take-le, take-at, drop-at, drop-append-add, drop-drop}
+use lib.ListN.{length, getD, take, drop, set, length-set, take-append-drop}
+use lib.Seq.{take-suc, set-at, append-snoc, length-take-le, take-at, drop-append-add, drop-drop}
 use Rattle.digits.specs.Spell.{spelt, spell}
 
 pub spelt-low : (d : ℕ) → d < 10 → 48 + d ≡ spelt d

@@ -13,7 +13,7 @@ use Prim.Native.Nat.{ℕ, suc, _+_, _*_, _/_, _%_, _^_, _<_, _≤_}
 use native.Mathlib.Decide.{ℕ-discrete}
 use native.Mathlib.Omega.{arith}
 use lib.Arith.{digits-lt}
-use lib.Dec.{T, eqb, ltb, lt→ltb, ltb→lt}
+use lib.Dec.{T, eqb, lt→ltb, ltb→lt}
 use lib.ListN.{length}
 use Rattle.bits.specs.Mask.{bit, Has, has}
 use Rattle.bits.proofs.Digits.{bit-pow-same}

@@ -3,11 +3,10 @@
 --
 --   Totalling costs x rest sum    sum and the costs of the jobs that are still in rest add up to S
 --   total-start, total-job, total-fits, total-turn, total-end
-use mathlib.Core.Path.{_≡_, refl, ap, _∙_, subst}
+use mathlib.Core.Path.{_≡_, refl, ap}
 use mathlib.Core.Logic.{_⊎_, inl, inr, _≢_}
 use mathlib.Core.List.{List}
-use Prim.Native.Nat.{ℕ, zero, suc, _+_, _-_, _*_, _^_, _<_, _≤_, zero-le}
-use native.Mathlib.Decide.{ℕ-discrete}
+use Prim.Native.Nat.{ℕ, _+_, _-_, _^_, _<_}
 use native.Mathlib.Omega.{arith}
 use lib.Bits.{bitAnd}
 use lib.Count.{trailingZeros}
@@ -15,7 +14,7 @@ use lib.ListN.{length, getD}
 use Rattle.bits.specs.Mask.{Has, has}
 use Rattle.bits.proofs.Masks.{has-test, test-has}
 use Rattle.bits.proofs.Rest.{Rest, rest-start, rest-end, rest-low, rest-here, rest-next, rest-gone, rest-cases}
-use Rattle.sums.specs.Sum.{sum, gate}
+use Rattle.sums.specs.Sum.{gate}
 use Rattle.sums.proofs.TestLaws.{T-eq}
 use Rattle.sums.proofs.SumLaws.{gate-on, gate-off, sum-point, sum-zero}
 use Rattle.network.specs.Arcs.{total}

@@ -13,7 +13,7 @@
 --   lowering-roundable, lowering-descendable, lowering-next, lowering-left
 --                                      as above, down the levels
 --   lowering-search                    no path is left down the levels, and a search
-use mathlib.Core.Path.{_≡_, refl}
+use mathlib.Core.Path.{_≡_}
 use mathlib.Core.Logic.{_≢_}
 use mathlib.Core.Bool.{Bool, true, false}
 use mathlib.Core.List.{List}
@@ -23,7 +23,7 @@ use native.Mathlib.Omega.{arith}
 use lib.ListN.{length}
 use Rattle.search.specs.Sought.{Ready, Path, Sought}
 use Rattle.push.specs.Way.{Roundable, Rounded}
-use Rattle.side.specs.Home.{Sidable, Sided}
+use Rattle.side.specs.Home.{Sided}
 use Rattle.flow.specs.Flowed.{Flowed}
 use Rattle.flow.specs.Levels.{Layerable, Layered, Descendable, Descended}
 use Rattle.flow.proofs.TurnLaws.{turn-layerable, turn-descent}

@@ -6,7 +6,7 @@
 --   ring-some, ring-none         a ring through T passes a job of X that T waits for
 --   Lies u p                     job u stands in the list p
 --   x-lies, lies-x               X is "T with all jobs that lie on a ring through T"
-use mathlib.Core.Path.{_≡_, refl, sym, _∙_, subst}
+use mathlib.Core.Path.{_≡_, sym, subst}
 use mathlib.Core.Logic.{_⊎_, inl, inr, ⊎-elim, _≢_}
 use mathlib.Core.Bool.{Bool}
 use mathlib.Core.List.{List, [], _∷_}

@@ -14,7 +14,7 @@ use lib.Pow.{pow-lt, pow-pos}
 use lib.Count.{trailingZeros}
 use lib.Dec.{T}
 use lib.ListN.{length, getD}
-use Rattle.bits.specs.Mask.{bit, Has, MaskOf}
+use Rattle.bits.specs.Mask.{Has, MaskOf}
 use Rattle.bits.proofs.Digits.{bit-zero, bit-pow-same}
 use Rattle.bits.proofs.Masks.{has-or-l, has-or-r, has-or-cases, has-pow-cases, has-xor, xor-zero, or-grows}
 use Rattle.bits.proofs.Lowest.{trailing-has}

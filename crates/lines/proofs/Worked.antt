@@ -4,7 +4,7 @@
 --   example-line     "Out: 0302000000000000000D000000010000000000000002"
 --   missing-line     11 at line 1, the refusal of an empty text
 use mathlib.Core.Path.{_≡_, refl}
-use mathlib.Core.List.{List, [], _∷_, _++_}
+use mathlib.Core.List.{[], _∷_, _++_}
 use Rattle.digits.specs.Spell.{spelt, spell}
 use Rattle.frames.specs.Records.{answered, refused}
 use Rattle.lines.specs.Lines.{answerLine, refusalLine}

@@ -1,5 +1,5 @@
 pub mod ReadLaws
 pub mod ByteLists
-pub mod WriteLaws
+pub mod ZeroLaws
 pub mod EachLaws
 pub mod Unique

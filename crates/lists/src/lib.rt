@@ -46,14 +46,14 @@ pub fn write_zeros(count: usize, bytes: &mut [u8])
     clear(bytes, 0, 8 * count);
 }
 
-// Whether the 8 numbers from a place on are 0.
-fn blank_eight(list: &[u64], at: usize) -> bool
-    requires { ⌜ at + 8 ≤ length (now list) ⌝ }
-    ensures { λ r. ⌜ (r ≡ true → Zeros (now (list .entry)) at 8) ⌝ }
+// Whether the 16 numbers from a place on are 0.
+fn blank(list: &[u64], at: usize) -> bool
+    requires { ⌜ at + 16 ≤ length (now list) ⌝ }
+    ensures { λ r. ⌜ (r ≡ true → Zeros (now (list .entry)) at 16) ⌝ }
 {
     let mut any = 0u64;
     let mut i = 0;
-    while i < 8 {
+    while i < 16 {
         any |= list[at + i];
         i += 1;
     }
@@ -63,54 +63,37 @@ fn blank_eight(list: &[u64], at: usize) -> bool
     false
 }
 
-// Writes the numbers at the places from `at` to below `end` that are above 0, over bytes that are 0.
+// Writes the numbers at the places from `at` to below `end`.
 fn write_part(list: &[u64], at: usize, end: usize, bytes: &mut [u8])
     requires { ⌜ Writable (now list) at end (now bytes) ⌝ }
-    ensures { λ _. ⌜ now (bytes .exit) ≡ written (now (list .entry)) end end (now (bytes .entry)) ⌝ }
+    ensures { λ _. ⌜ now (bytes .exit) ≡ written (now (list .entry)) end (now (bytes .entry)) ⌝ }
 {
     let mut i = at;
     while i < end {
-        let x = list[i];
-        if x != 0 {
-            put_number(bytes, 8 * i, 8, x);
-        }
+        put_number(bytes, 8 * i, 8, list[i]);
         i += 1;
     }
 }
 
 const FEW: usize = 64;
 
-// Writes every number of a list, 0 or not: where there are few that takes less time than to tell which are 0.
-fn write_each(list: &[u64], bytes: &mut [u8])
-    requires { ⌜ 8 * length (now list) ≤ length (now bytes) ⌝ }
-    ensures { λ _. ⌜ now (bytes .exit) ≡ allBytes (now (list .entry)) ++ drop (8 * length (now (list .entry))) (now (bytes .entry)) ⌝ }
-{
-    let mut i = 0;
-    while i < list.len() {
-        put_number(bytes, 8 * i, 8, list[i]);
-        i += 1;
-    }
-}
-
-// Writes the bytes of a list of numbers at the front of a list of bytes. Where they are many, the bytes of eight numbers are zeroed
-// just before these are looked at, so that a number that is 0 needs no more.
+// Writes the bytes of a list of numbers at the front of a list of bytes. Where they are many, 16 that are 0 are written as so many zero bytes;
+// where they are few, writing each takes less time than telling which are 0.
 pub fn write_numbers(list: &[u64], bytes: &mut [u8])
     requires { ⌜ 8 * length (now list) ≤ length (now bytes) ⌝ }
     ensures { λ _. ⌜ now (bytes .exit) ≡ allBytes (now (list .entry)) ++ drop (8 * length (now (list .entry))) (now (bytes .entry)) ⌝ }
 {
     let n = list.len();
-    if n <= FEW {
-        write_each(list, bytes);
-        return;
-    }
     let mut i = 0;
-    while i + 8 <= n {
-        clear(bytes, 8 * i, 64);
-        if !blank_eight(list, i) {
-            write_part(list, i, i + 8, bytes);
+    if FEW < n {
+        while i + 16 <= n {
+            if blank(list, i) {
+                clear(bytes, 8 * i, 128);
+            } else {
+                write_part(list, i, i + 16, bytes);
+            }
+            i += 16;
         }
-        i += 8;
     }
-    clear(bytes, 8 * i, 8 * (n - i));
     write_part(list, i, n, bytes);
 }

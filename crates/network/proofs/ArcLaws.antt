@@ -25,7 +25,7 @@ use lib.Dec.{T, eqb, eqb→eq, eqb-refl, not-T, T-not}
 use Rattle.sums.specs.Tests.{both}
 use Rattle.sums.specs.Sum.{sum, gate}
 use Rattle.sums.proofs.TestLaws.{both-intro, both-left, both-right, tested, eqb-on, eqb-off}
-use Rattle.sums.proofs.SumLaws.{gate-on, gate-off, gate-le, sum-cong, sum-zero, sum-mono, sum-term, sum-single, sum-pairs}
+use Rattle.sums.proofs.SumLaws.{gate-on, gate-off, gate-le, sum-cong, sum-zero, sum-term, sum-single, sum-pairs}
 use Rattle.sums.proofs.DoubleSums.{dsum, dsum-term}
 use Rattle.network.specs.Arcs.{inn, out, flowOn, total, jobCapacity, net}
 use Rattle.network.proofs.CutLaws.{cut}

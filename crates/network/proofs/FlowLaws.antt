@@ -12,7 +12,7 @@
 --   room-limit            what bounds the capacities bounds the rooms
 --   capacity-conserved    in the document's network what flows into a job other than T flows out of it
 --   capacity-limit        and no room is above S + 1, which refusal 8 keeps at 2^63 or below: nothing leaves 64 bits
-use mathlib.Core.Path.{_≡_, sym, _∙_, subst}
+use mathlib.Core.Path.{_≡_, sym, _∙_}
 use mathlib.Core.Logic.{_⊎_, inl, inr, _≢_}
 use mathlib.Core.Bool.{Bool, not}
 use Prim.Native.Nat.{ℕ, suc, _+_, _*_, _≤_, _<_}
@@ -26,7 +26,7 @@ use Rattle.sums.proofs.TestLaws.{both-intro, both-left, both-right, tested, ne-
 use Rattle.sums.proofs.SumLaws.{gate-on, gate-off, gate-le, sum-cong, sum-zero, sum-add, sum-point, sum-single, sum-pairs}
 use Rattle.sums.proofs.DoubleSums.{dsum}
 use Rattle.network.specs.Rooms.{Room}
-use Rattle.network.specs.Rounds.{Rounds, none}
+use Rattle.network.specs.Rounds.{Rounds}
 use Rattle.network.specs.Arcs.{inn, out, flowOn, within, total, jobCapacity, net, capacity}
 use Rattle.network.proofs.RoundLaws.{rounds-pair}
 use Rattle.network.proofs.CutLaws.{cut, Carried, rounds-carried}

@@ -4,10 +4,10 @@
 --   place-in                 the place of a state is in the list
 --   Met states n s j k i     at one of the first k pools job j is waiting and job i is active
 --   met-start, met-waits, met-skips, met-end   the start, a pool where j waits, one where it does not, the end
-use mathlib.Core.Path.{_≡_, refl, sym, _∙_, subst}
+use mathlib.Core.Path.{_≡_, sym, subst}
 use mathlib.Core.Logic.{_⊎_, inl, inr, ⊎-elim, _≢_}
 use mathlib.Core.List.{List}
-use Prim.Native.Nat.{ℕ, _+_, _*_, _<_, _≤_}
+use Prim.Native.Nat.{ℕ, _+_, _*_, _<_}
 use native.Mathlib.Omega.{arith}
 use native.Mathlib.Decide.{ℕ-discrete}
 use lib.Arith.{digits-lt}
@@ -15,11 +15,10 @@ use lib.Bits.{bitOr}
 use lib.Dec.{T, eqb, eqb→eq}
 use lib.ListN.{length, getD}
 use lib.Pow.{pow-pos}
-use Rattle.bits.specs.Mask.{bit, MaskOf}
+use Rattle.bits.specs.Mask.{MaskOf}
 use Rattle.bits.proofs.Digits.{bit-zero}
 use Rattle.bits.proofs.Masks.{mask-or, mask-same}
-use Rattle.sums.specs.Tests.{both}
-use Rattle.sums.proofs.TestLaws.{both-intro, both-left, both-right, eqb-on}
+use Rattle.sums.proofs.TestLaws.{both-intro, both-left, both-right}
 use Rattle.pools.specs.Pools.{isActive, isWaiting, blocks, stateAt, Table, ActiveAt, WaitsFor}
 
 pub place-in : (states : List ℕ) (n s j p : ℕ) → Table states n s → j < n → p < s → j * s + p < length states

@@ -7,7 +7,7 @@
 use mathlib.Core.Path.{_≡_}
 use mathlib.Core.Bool.{true}
 use mathlib.Core.List.{List, _++_}
-use Prim.Native.Nat.{ℕ, _*_, _/_, _%_, _<_, _≤_}
+use Prim.Native.Nat.{ℕ, _*_, _/_}
 use lib.ListN.{length, drop}
 use Rattle.bits.specs.Mask.{MaskOf}
 use Rattle.graph.specs.Waits.{waits}

@@ -7,7 +7,7 @@
 --   level-start, level-add, level-next     the source alone; a neighbour is met; a place is scanned
 --   level-turn                             the level is scanned, and the next one begins
 --   level-enter, level-open                the masks at the start of a level, and where a place is taken
-use mathlib.Core.Path.{_≡_, refl, sym, ap, _∙_, subst}
+use mathlib.Core.Path.{_≡_, sym, ap, _∙_, subst}
 use mathlib.Core.List.{List}
 use Prim.Native.Nat.{ℕ, _+_, _-_, _%_, _<_, _≤_, zero-le}
 use native.Mathlib.Decide.{ℕ-discrete}

@@ -8,7 +8,7 @@ use mathlib.Core.Logic.{_⊎_, inl, inr, _≢_}
 use Prim.Native.Nat.{ℕ, _+_, _≤_, _<_}
 use native.Mathlib.Omega.{arith}
 use Rattle.sums.specs.Sum.{sum}
-use Rattle.sums.proofs.SumLaws.{sum-cong, sum-mono, sum-add, sum-point, sum-term, sum-zero, sum-strict, sum-swap}
+use Rattle.sums.proofs.SumLaws.{sum-cong, sum-mono, sum-add, sum-point, sum-term, sum-zero, sum-strict}
 
 unfoldable pub dsum : ℕ → (ℕ → ℕ → ℕ) → ℕ
 dsum n f = sum n (λ i. sum n (λ j. f i j))

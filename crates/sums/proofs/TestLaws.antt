@@ -7,7 +7,7 @@
 --   tested                                      a test passes or fails
 --   T-eq                                        tests that pass together are equal
 --   eqb-on, eqb-off, ne-test, test-ne           the test of two equal numbers
-use mathlib.Core.Path.{_≡_, refl, sym, ap, _∙_, subst}
+use mathlib.Core.Path.{_≡_, refl, sym, subst}
 use mathlib.Core.Logic.{_⊎_, inl, inr, _≢_}
 use mathlib.Core.Bool.{Bool, true, false, not}
 use Prim.Native.Nat.{ℕ, zero, suc, _<_}

@@ -8,24 +8,21 @@
 --   Demand             K rounds is what an allowance of K or more gives, and a smaller one gives "not yet" and the allowance; verdict-demand
 use mathlib.Core.Path.{_≡_, refl, sym, ap, _∙_, subst}
 use mathlib.Core.Logic.{_≢_}
-use mathlib.Core.Bool.{Bool, not}
-use mathlib.Core.List.{List}
-use Prim.Native.Nat.{ℕ, zero, suc, _+_, _*_, _/_, _%_, _^_, _<_, _≤_}
+use mathlib.Core.Bool.{Bool}
+use Prim.Native.Nat.{ℕ, _+_, _*_, _/_, _<_, _≤_}
 use native.Mathlib.Omega.{arith}
 use native.Mathlib.Decide.{ℕ-discrete}
-use lib.Dec.{T, eqb}
-use Rattle.bits.specs.Mask.{Has, MaskOf}
+use lib.Dec.{T}
 use Rattle.bits.proofs.Masks.{mask-unique, mask-same}
-use Rattle.sums.specs.Tests.{both}
 use Rattle.sums.specs.Sum.{sum, gate}
 use Rattle.sums.proofs.SumLaws.{sum-cong}
-use Rattle.walks.specs.Walk.{Walk, Reaches}
-use Rattle.graph.specs.Rings.{Ring, InX}
+use Rattle.walks.specs.Walk.{Reaches}
+use Rattle.graph.specs.Rings.{InX}
 use Rattle.network.specs.Rooms.{Room, step}
 use Rattle.network.specs.Rounds.{Rounds, Stuck}
 use Rattle.network.specs.Rounds.Rounds.{none, more}
 use Rattle.network.specs.Arcs.{inn, out, within, total, jobCapacity, net, capacity, waitCount}
-use Rattle.network.specs.Sets.{Exactly, Best, price}
+use Rattle.network.specs.Sets.{Best, price}
 use Rattle.network.proofs.SameRooms.{Same, walk-same}
 use Rattle.network.proofs.RoundLaws.{rounds-unique, stuck-last, count-unique}
 use Rattle.network.proofs.SetLaws.{exactly-unique, price-same, inX, inx-exact}

@@ -6,34 +6,28 @@
 --   call-unique       two results of a call are equal, and so are the work lists; on all inputs
 --   call-demand       for an input without faults there is one number of rounds, at most 2n(m + n), and what an allowance gives
 use mathlib.Core.Path.{_≡_, refl, sym, ap, _∙_, subst}
-use mathlib.Core.Logic.{_≢_}
-use mathlib.Core.Bool.{Bool, true, false}
 use mathlib.Core.List.{List}
 use Prim.Native.Nat.{ℕ, _+_, _*_, _/_, _%_, _<_, _≤_}
 use native.Mathlib.Nat.{div-add-mod', div-lt-iff-lt-mul, mod-lt}
 use native.Mathlib.Omega.{arith}
-use native.Mathlib.Decide.{ℕ-discrete, decLt}
-use lib.Arith.{digits-lt}
-use lib.Dec.{T}
+use native.Mathlib.Decide.{decLt}
 use lib.ListN.{length, getD}
 use lib.Seq.{ext-getD}
 use Rattle.sums.specs.Sum.{gate}
 use Rattle.graph.specs.Waits.{waits}
 use Rattle.graph.specs.Rings.{InX}
-use Rattle.network.specs.Rooms.{Room}
 use Rattle.network.specs.Rounds.{Rounds}
 use Rattle.network.specs.Arcs.{inn, out, within, waitCount}
-use Rattle.network.specs.Sets.{Exactly}
 use Rattle.network.proofs.RoundLaws.{rounds-unique}
-use Rattle.network.proofs.SetLaws.{exactly-unique, inX}
+use Rattle.network.proofs.SetLaws.{exactly-unique}
 use Rattle.network.specs.Costs.{costAt}
 use Rattle.verdict.specs.declared.Outcome.{Outcome}
 use Rattle.verdict.specs.declared.Outcome.the-variants.{Wait, AbortT, AbortOthers, NotYet}
 use Rattle.verdict.specs.declared.Decision.{Decision}
 use Rattle.verdict.specs.declared.Answer.{Answer}
 use Rattle.verdict.specs.declared.Answer.the-variants.{Refused, Decided}
-use Rattle.checks.specs.Refusals.{Refusal, Faultless}
-use Rattle.verdict.specs.Answers.{outcomeNumber, After, Verdict}
+use Rattle.checks.specs.Refusals.{Faultless}
+use Rattle.verdict.specs.Answers.{outcomeNumber, Verdict}
 use Rattle.verdict.specs.Called.{Flows, Called}
 use Rattle.verdict.specs.Called.Called.{refuses, answers}
 use Rattle.checks.proofs.RefusalLaws.{refusal-unique, refusal-faultless, faultless-job, faultless-apart, faultless-positive}

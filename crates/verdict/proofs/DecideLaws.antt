@@ -7,8 +7,7 @@
 --   decide-waits, decide-unfinished, decide-itself, decide-others   the four cases
 --   cleared-faultless, cleared-ringed, called-cleared   the same input on the cleared list, and a call on it
 --   price-inflow, inflow-summable   the flow into T is the price of the set, and can be added up
-use mathlib.Core.Path.{_≡_, refl, sym, ap, _∙_, subst}
-use mathlib.Core.Logic.{_≢_}
+use mathlib.Core.Path.{_≡_, refl, sym, _∙_, subst}
 use mathlib.Core.Bool.{Bool, true, false}
 use mathlib.Core.List.{List}
 use Prim.Native.Nat.{ℕ, suc, _+_, _*_, _^_, _<_, _≤_}
@@ -19,7 +18,7 @@ use lib.Dec.{T}
 use lib.ListN.{length, getD}
 use Rattle.bits.specs.Mask.{Has, has, MaskOf}
 use Rattle.bits.proofs.Masks.{has-test, test-has, has-and, and-has, has-xor, xor-has}
-use Rattle.sums.specs.Sum.{sum, gate}
+use Rattle.sums.specs.Sum.{gate}
 use Rattle.sums.specs.Tests.{both}
 use Rattle.sums.proofs.TestLaws.{both-left}
 use Rattle.sums.proofs.SumLaws.{sum-cong, sum-mono, gate-le}

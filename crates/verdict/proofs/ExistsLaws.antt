@@ -2,7 +2,6 @@
 -- Assumes nothing.
 --
 --   verdict-exists    for at most 64 jobs of which none waits for itself there is a verdict; with `verdict-unique`: exactly one
-use mathlib.Core.Path.{_≡_, refl, sym, subst}
 use mathlib.Core.Bool.{Bool, true, false}
 use mathlib.Core.List.{List}
 use Prim.Native.Nat.{ℕ, _+_, _*_, _^_, _<_, _≤_}
@@ -12,7 +11,6 @@ use lib.Dec.{T}
 use Rattle.bits.proofs.Collected.{mask-exists}
 use Rattle.graph.specs.Rings.{Ring, RingThrough}
 use Rattle.graph.specs.Rings.RingThrough.{some, none}
-use Rattle.network.specs.Rooms.{Room}
 use Rattle.network.specs.Arcs.{inn, out, capacity, waitCount}
 use Rattle.network.specs.Sets.{Best, price}
 use Rattle.network.proofs.SetLaws.{inX, inx-exact}
@@ -20,7 +18,7 @@ use Rattle.network.proofs.Counted.{Counted}
 use Rattle.network.proofs.Tally.{capacity-counted}
 use Rattle.network.proofs.BestLaws.{best-exists}
 use Rattle.network.proofs.Computed.{ringed, ringed-right}
-use Rattle.verdict.specs.Answers.{After, Verdict}
+use Rattle.verdict.specs.Answers.{Verdict}
 use Rattle.verdict.specs.Answers.Verdict.{stays, itself, others, unfinished}
 
 module _ (w : ℕ → ℕ → Bool) (n τ : ℕ) (cost : ℕ → ℕ) (few : n ≤ 64) (lτ : τ < n) (apart : (u : ℕ) → u < n → T (w u u) → ⊥) (a : ℕ) where

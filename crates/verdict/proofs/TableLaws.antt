@@ -5,22 +5,21 @@
 --   test c            the verdict of the case computed, and held against what the table says
 --   test-right        a case that passes is right
 --   worked            every case of the table is right
-use mathlib.Core.Path.{_≡_, refl, sym, ap, _∙_, subst}
+use mathlib.Core.Path.{_≡_, refl, sym, subst}
 use mathlib.Core.Logic.{_⊎_, inl, inr}
 use mathlib.Core.Bool.{Bool, true, false, not}
 use mathlib.Core.List.{List, [], _∷_}
-use Prim.Native.Nat.{ℕ, zero, suc, _+_, _*_, _^_, _<_, _≤_}
+use Prim.Native.Nat.{ℕ, _*_, _^_, _<_, _≤_}
 use native.Mathlib.Nat.{lt-of-lt-of-le}
 use native.Mathlib.Decide.{decLt}
 use native.Mathlib.Omega.{arith}
 use lib.Dec.{T, eqb, ltb, leb, eqb→eq, ltb→lt, lt→ltb, leb→le, T-not, not-T}
 use lib.Pow.{pow-mono}
 use lib.ListN.{length}
-use Rattle.bits.specs.Mask.{bit, Has, has, MaskOf}
+use Rattle.bits.specs.Mask.{has}
 use Rattle.bits.proofs.Masks.{has-test, test-has}
 use Rattle.bits.proofs.Lowest.{has-below}
-use Rattle.sums.specs.Tests.{both, either, any}
-use Rattle.sums.specs.Sum.{sum, gate}
+use Rattle.sums.specs.Tests.{both, any}
 use Rattle.sums.proofs.TestLaws.{both-left, both-right, any-intro, tested}
 use Rattle.walks.specs.Walk.{Reaches}
 use Rattle.walks.proofs.ReachLaws.{reach, reach-reaches}
@@ -35,7 +34,7 @@ use Rattle.network.proofs.SetLaws.{inX, inx-exact}
 use Rattle.network.proofs.BestLaws.{sinkSet}
 use Rattle.network.proofs.Computed.{ringed, ringed-right, run, Ran, run-right, run-best, unreached-stuck}
 use Rattle.network.specs.Costs.{costAt}
-use Rattle.verdict.specs.Answers.{After, Victims, Verdict}
+use Rattle.verdict.specs.Answers.{After, Victims}
 use Rattle.verdict.specs.Answers.Verdict.{stays, itself, others, unfinished}
 use Rattle.verdict.specs.Worked.{Case, Right, All, table}
 

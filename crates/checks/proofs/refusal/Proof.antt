@@ -1,5 +1,4 @@
 -- `checks::refusal` meets its contract: a chain of checks, each with its refusal. Assumes nothing.
-use borrow.Author.Needs.{needs}
 use borrow.Author.Tests.{not-true, not-false}
 use native.Mathlib.Omega.{arith}
 use native.Mathlib.Nat.{mul-le-mul}

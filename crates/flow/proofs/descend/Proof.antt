@@ -1,7 +1,6 @@
 use native.Mathlib.Omega.{arith}
 -- `descend`: the queue leads from the source down to node a at level k. Each turn goes one level down, or takes a node that leads nowhere off its level and goes one level up.
 use Prim.Native.Nat.{_+_, _-_, _*_, _/_}
-use mathlib.Core.Path.{refl}
 use native.Mathlib.Omega.{arith}
 use Rattle.bits.proofs.Digits.{one-shl}
 use Rattle.sums.specs.Sum.{sum}

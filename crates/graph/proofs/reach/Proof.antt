@@ -1,6 +1,5 @@
 -- `graph::reach` meets its contract. The loop's invariant: what is seen is reached, and the waits of what is done are seen.
 -- The measure: the mask of what is done grows as a number. Assumes nothing.
-use borrow.Author.Needs.{needs}
 use native.Mathlib.Omega.{arith}
 use mathlib.Core.Path.{refl}
 use Prim.Native.Nat.{_^_, _-_, _<_}

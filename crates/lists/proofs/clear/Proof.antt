@@ -1,7 +1,7 @@
 use native.Mathlib.Omega.{arith}
 -- `lists::clear`. Invariant: i bytes from `at` on are 0, the rest as they were.
 use Prim.Native.Nat.{_-_}
-use Rattle.lists.proofs.WriteLaws.{Clearing, clearing-start, clearing-turn, clearing-end}
+use Rattle.lists.proofs.ZeroLaws.{Clearing, clearing-start, clearing-turn, clearing-end}
 use Rattle.lists.proofs.clear.Statement.{statement}
 use Rattle.lists.proofs.clear.Tie as tie
 use Rattle.lists.proofs.clear.Reads as reads

@@ -1,6 +1,6 @@
 -- `lists::write_zeros`: the bytes of zeros are zeros.
 use borrow.Author.Needs.{needs}
-use Rattle.lists.proofs.WriteLaws.{zeroed-numbers}
+use Rattle.lists.proofs.ZeroLaws.{zeroed-numbers}
 use Rattle.lists.proofs.write_zeros.Statement.{statement}
 use Rattle.lists.proofs.write_zeros.Tie as tie
 

@@ -6,7 +6,7 @@ use Prim.Native.Nat.{_+_, _*_, _≤_, _<_, _-_, zero-le}
 use lib.ListN.{length}
 use Rattle.bits.proofs.Digits.{one-shl}
 use Rattle.bits.proofs.Collected.{Part, part-none, part-skip, part-take, part-all}
-use Rattle.pools.specs.Pools.{Table, ActiveAt}
+use Rattle.pools.specs.Pools.{ActiveAt}
 use Rattle.pools.proofs.PoolLaws.{place-in, active-at, at-active}
 use Rattle.pools.proofs.active_at.Statement.{statement}
 use Rattle.pools.proofs.active_at.Tie as tie

@@ -1,5 +1,5 @@
 -- `reader::fill_rows`. Invariant: the first j places have the rows of the first j jobs by the table, and the rest are kept.
-use Prim.Native.Nat.{ℕ, _≤_, _-_, _*_, zero-le}
+use Prim.Native.Nat.{_≤_, _-_, zero-le}
 use mathlib.Core.Path.{_≡_, sym, ap, _∙_}
 use native.Mathlib.Omega.{arith}
 use borrow.Author.Needs.{needs}

@@ -1,6 +1,5 @@
 -- `refusals::job_place`: the formula, below 4,000.
-use mathlib.Core.Path.{refl, ap}
-use Prim.Native.Nat.{ℕ, _+_, _*_}
+use mathlib.Core.Path.{refl}
 use native.Mathlib.Omega.{arith}
 use Rattle.refusals.proofs.PlaceLaws.{place-small}
 use borrow.Author.Needs.{needs}

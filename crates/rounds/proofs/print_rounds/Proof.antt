@@ -1,7 +1,6 @@
 -- `rounds::print_rounds` is safe and ends: a call that is not refused has its rounds. Assumes nothing.
 use borrow.Author.Needs.{needs}
 use mathlib.Core.Path.{sym, subst}
-use Prim.Native.Nat.{ℕ}
 use lib.Seq.{length-take-le}
 use Rattle.checks.specs.Refusals.{Faultless}
 use Rattle.checks.proofs.RefusalLaws.{due-none, faultless-jobs, faultless-job}

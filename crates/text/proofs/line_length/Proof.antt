@@ -1,5 +1,4 @@
 -- `text::line_length`. Invariant: no line feed stands from `at` up to i.
-use mathlib.Core.Path.{_≡_}
 use Prim.Native.Nat.{_-_}
 use native.Mathlib.Omega.{arith}
 use lib.ListN.{length}

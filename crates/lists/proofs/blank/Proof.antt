@@ -1,18 +1,18 @@
 use native.Mathlib.Omega.{arith}
--- `lists::blank_eight`. Invariant: the first i numbers are 0 where their | is.
+-- `lists::blank`. Invariant: the first i numbers are 0 where their | is.
 use mathlib.Core.Path.{_≡_}
 use Prim.Native.Nat.{ℕ, _-_}
-use Rattle.lists.proofs.WriteLaws.{Blank, blank-start, blank-turn, blank-end}
-use Rattle.lists.proofs.blank_eight.Statement.{statement}
-use Rattle.lists.proofs.blank_eight.Tie as tie
-use Rattle.lists.proofs.blank_eight.Reads as reads
-use Rattle.lists.proofs.blank_eight.Lts as lts
+use Rattle.lists.proofs.ZeroLaws.{Blank, blank-start, blank-turn, blank-end}
+use Rattle.lists.proofs.blank.Statement.{statement}
+use Rattle.lists.proofs.blank.Tie as tie
+use Rattle.lists.proofs.blank.Reads as reads
+use Rattle.lists.proofs.blank.Lts as lts
 
 abbrev Inv-loop : tie.InvT-loop
 Inv-loop list at any₀ i₀ any i = Blank list at any i
 
 abbrev μ-loop : tie.MeasureT-loop
-μ-loop list at any₀ i₀ any i = 8 - i
+μ-loop list at any₀ i₀ any i = 16 - i
 
 loop-holds : tie.Need-loop-holds Inv-loop μ-loop
 loop-holds c = blank-start _ _
@@ -41,8 +41,8 @@ returns c = λ e. blank-end _ _ _ _ (c .before .before .loop .inv) (omega arith)
 returns-2 : tie.Need-returns-2 Inv-loop μ-loop
 returns-2 c = λ e. let z : _≡_ {A = ℕ} 0 1 = cc in absurd (omega arith)
 
-pub blank-eight-spec : {M : Type 1} → statement M
-blank-eight-spec =
+pub blank-spec : {M : Type 1} → statement M
+blank-spec =
     tie.close
     (tie.spec
     Inv-loop
