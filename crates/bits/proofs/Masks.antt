@@ -6,7 +6,7 @@
 --   has-and, and-has                       what a & b holds
 --   has-xor, xor-has, xor-lacks, xor-zero  what a ^ b holds
 --   has-pow-cases, has-full                what 2 ^ u and 2 ^ j - 1 hold
---   or-le, or-grows                        a | b as a number
+--   or-le, or-grows, xor-falls             a | b, and a ^ 2 ^ u, as numbers
 --   mask-ext, mask-unique                  masks that hold the same are equal; two masks of P are equal
 --   mask-same, mask-or                     a mask of what is the same, of one of two
 use mathlib.Core.Path.{_≡_, refl, sym, ap, _∙_, subst}
@@ -15,8 +15,8 @@ use Prim.Native.Nat.{ℕ, zero, suc, _-_, _/_, _^_, _≤_, _<_, max}
 use native.Mathlib.Nat.{le-of-suc-le-suc, not-suc-le-zero, pow-suc}
 use native.Mathlib.Omega.{arith}
 use native.Mathlib.Decide.{ℕ-discrete}
-use lib.Pow.{pow-pos}
-use lib.Bits.{bitAnd, bitOr, bitXor, differ, or-add-and, and-le-r, or-lt}
+use lib.Pow.{pow-pos, pow-lt}
+use lib.Bits.{bitAnd, bitOr, bitXor, differ, or-add-and, xor-add-and, and-le-r, and-lt, or-lt}
 use lib.Dec.{T, eqb, eqb→eq}
 use Rattle.bits.specs.Mask.{bit, Has, has, MaskOf}
 use Rattle.bits.proofs.Digits.{bit-lt, bit-zero, bit-or, bit-and, bit-xor, bit-here, bit-suc, bit-pow-other, bit-ext}
@@ -128,6 +128,17 @@ mask-ext k a b ha hb f g = bit-ext k a b ha hb (λ i l. same (bit a i) (bit b i)
     same zero (suc (suc y)) hx hy p q = absurd (not-suc-le-zero (le-of-suc-le-suc (le-of-suc-le-suc hy)))
     same (suc zero) y hx hy p q = sym (p refl)
     same (suc (suc x)) y hx hy p q = absurd (not-suc-le-zero (le-of-suc-le-suc (le-of-suc-le-suc hx)))
+
+-- a digit that is taken off makes the mask smaller
+pub xor-falls : (k x j : ℕ) → x < 2 ^ k → j < k → Has x j → bitXor x (2 ^ j) < x
+xor-falls k x j l lj h = omega (arith, xor-add-and x (2 ^ j), pow-pos j, both)
+  where
+    small : 2 ^ j < 2 ^ k
+    small = pow-lt lj
+
+    both : bitAnd x (2 ^ j) ≡ 2 ^ j
+    both = mask-ext k (bitAnd x (2 ^ j)) (2 ^ j) (and-lt k x (2 ^ j) l small) small (λ i li g. has-and x (2 ^ j) i g .1)
+        (λ i li g. and-has x (2 ^ j) i (subst (Has x) (sym (has-pow-cases j i g)) h) g)
 
 -- the statement settles the mask
 pub mask-unique : (P : ℕ → Type 0) (a b : ℕ) → MaskOf P a → MaskOf P b → a ≡ b

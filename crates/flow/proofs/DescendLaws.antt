@@ -5,7 +5,8 @@
 --   descend-start         at the source
 --   descend-below         where the sink is not reached there is a level below
 --   descend-on            one level down
---   descend-back          a node that leads nowhere leaves its level, one level up
+--   descend-back, descend-turn
+--                         a node that leads nowhere leaves its level, one level up, where the nodes are on the other side
 --   descend-less          the levels have then fallen by more than the way has
 --   descend-none          none is found
 --   descend-found         the sink is reached: the way is the path that a round takes
@@ -15,15 +16,14 @@ use mathlib.Core.List.{List, [], _∷_, _++_}
 use Prim.Native.Nat.{ℕ, zero, suc, _+_, _-_, _*_, _/_, _%_, _^_, _<_, _≤_, zero-le, suc-le-suc}
 use native.Mathlib.Decide.{ℕ-discrete, decLt}
 use native.Mathlib.Omega.{arith}
-use lib.Bits.{bitAnd, bitXor, and-le-r, and-lt, xor-add-and}
+use lib.Bits.{bitAnd, bitXor, and-le-r}
 use lib.Count.{trailingZeros}
 use lib.Dec.{T}
-use lib.Pow.{pow-pos, pow-lt}
 use lib.ListN.{length, set, length-set}
 use lib.Seq.{getD-set-same, getD-set-other}
 use Rattle.bits.specs.Mask.{Has}
 use Rattle.bits.proofs.Lowest.{trailing-has, trailing-least}
-use Rattle.bits.proofs.Masks.{has-and, and-has, has-xor, xor-has, has-pow-cases, mask-ext}
+use Rattle.bits.proofs.Masks.{has-and, and-has, has-xor, xor-has, has-pow-cases, xor-falls}
 use Rattle.bits.proofs.Rest.{rest-end}
 use Rattle.sums.specs.Sum.{sum}
 use Rattle.sums.proofs.SumLaws.{sum-strict}
@@ -72,18 +72,6 @@ descend-start S s t L qs ps D = record {
 
     alone : (i : ℕ) → i ≤ 0 → at (set qs 0 s) i ≡ s
     alone i l = ap (at (set qs 0 s)) (omega arith) ∙ first
-
--- ---- a digit taken off
-
-xor-falls : (k x j : ℕ) → x < 2 ^ k → j < k → Has x j → bitXor x (2 ^ j) < x
-xor-falls k x j l lj h = omega (arith, xor-add-and x (2 ^ j), pow-pos j, both)
-  where
-    small : 2 ^ j < 2 ^ k
-    small = pow-lt lj
-
-    both : bitAnd x (2 ^ j) ≡ 2 ^ j
-    both = mask-ext k (bitAnd x (2 ^ j)) (2 ^ j) (and-lt k x (2 ^ j) l small) small (λ i li g. has-and x (2 ^ j) i g .1)
-        (λ i li g. and-has x (2 ^ j) i (subst (Has x) (sym (has-pow-cases j i g)) h) g)
 
 -- ---- walks to the sink
 
@@ -147,7 +135,7 @@ module _ (S : List ℕ) (s t : ℕ) (L qs ps : List ℕ) (k a : ℕ) (D : Descen
 
   -- ---- one level down
 
-  module _ (ne : a ≢ t) (some : bitAnd (at S a) (at L (k + 1)) ≢ 0) where
+  module _ (ne : a ≢ t) (some : bitAnd (at S a) (at L (k + 1)) ≢ 0) (other : ℕ) (turn : other ≡ 1 - a % 2) where
     abbrev rest : ℕ
     rest = bitAnd (at S a) (at L (k + 1))
 
@@ -161,7 +149,7 @@ module _ (S : List ℕ) (s t : ℕ) (L qs ps : List ℕ) (k a : ℕ) (D : Descen
     descend-low = trailing-has 64 rest small some .1
 
     abbrev b : ℕ
-    b = 2 * trailingZeros 64 rest + (1 - a % 2)
+    b = 2 * trailingZeros 64 rest + other
 
     pub descend-to : b < 128
     descend-to = omega (arith, descend-low)
@@ -303,6 +291,10 @@ module _ (S : List ℕ) (s t : ℕ) (L qs ps : List ℕ) (k a : ℕ) (D : Descen
             where
               other : c / 2 ≡ a / 2 → ⊥
               other q = let z : c ≡ a = omega (arith, q, side, W .sides, walk-sides S t c p w) in stuck p (subst (λ (x : ℕ). Walk (step (masked S)) 128 x t p) z w) (omega (arith, h, e, rank))
+
+      -- the node one level up is on the other side
+      pub descend-turn : at qs (k - 1) % 2 ≡ 1 - a % 2
+      descend-turn = omega (arith, side, D .sides (k - 1) (omega arith))
 
       pub descend-back : Descending S s t L′ qs ps (k - 1) (at qs (k - 1))
       unfolding levels

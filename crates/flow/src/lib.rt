@@ -1,6 +1,7 @@
 // Rounds against an allowance: the flow layer's written statement is `Flowed`.
 // The network is that of the document, over the rows, the costs, T (here t) and the mask x of X; it is never written down.
 // Kept during the rounds: the flow on the waits in the lent work list, the flow through each job, and for each node the mask of its steps with room.
+// A round's path is found by a search, or, behind the first rounds, down the levels of a search that has found one of its length.
 ghost use mathlib.Core.Path.{_≡_};
 ghost use mathlib.Core.Bool.{true};
 ghost use Prim.Native.Nat.{_+_, _*_};
@@ -82,6 +83,7 @@ fn descend(
     let mut a = sink + 1;
     queue[0] = a as u8;
     let mut k = 0usize;
+    let mut side = 0usize;
     while a != sink {
         let rest = steps[a] & levels[k + 1];
         if rest == 0 {
@@ -91,11 +93,13 @@ fn descend(
             levels[k] = levels[k] ^ (1u64 << (a / 2));
             k -= 1;
             a = queue[k] as usize;
+            side = 1 - side;
         } else {
-            a = 2 * (u64::trailing_zeros(rest) as usize) + (1 - a % 2);
+            a = 2 * (u64::trailing_zeros(rest) as usize) + side;
             parent[k + 1] = k as u8;
             k += 1;
             queue[k] = a as u8;
+            side = 1 - side;
         }
     }
     k
