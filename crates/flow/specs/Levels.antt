@@ -1,4 +1,5 @@
 -- The levels of a search, by which further paths of the same length are found without a search of their own: what the inner functions `layer` and `descend` promise.
+-- No statement of a public function leans on it. Where `descend` answers 0 it promises no more than levels: the search that follows decides whether a path is left.
 -- Place k of L has a mask of jobs: those of nodes that a shortest path can have behind k steps. Steps lead from an in-node to an out-node or the other way,
 -- so the number of steps says which node of a job is meant. S has the masks of the steps, s is the source and t the sink; qs, ps, e as in `Sought` of the search.
 --
