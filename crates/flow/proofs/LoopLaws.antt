@@ -28,7 +28,8 @@ use Rattle.flow.specs.Flowed.{Flowed}
 use Rattle.flow.specs.Levels.{Layerable, Layered, Descendable, Descended}
 use Rattle.flow.proofs.TurnLaws.{turn-layerable, turn-descent}
 use Rattle.flow.proofs.LastingLaws.{descent-lasts}
-use Rattle.flow.proofs.RunLaws.{Aside, aside-none, aside-trans, Running, running-ready, running-job, running-reaches, running-roundable, running-aside, running-next, running-settled, running-left}
+use Rattle.flow.proofs.WayLaws.{Aside, aside-none, aside-trans}
+use Rattle.flow.proofs.RunLaws.{Running, running-ready, running-job, running-reaches, running-roundable, running-aside, running-next, running-settled, running-left}
 
 -- what `unfinished` makes
 pub left-made : (rows costs : List ℕ) (τ x allowance : ℕ) (before F : List ℕ) (k k′ : ℕ) (left : Bool) (ins outs : ℕ) → (k′ ≡ k) × (left ≡ true) × (ins ≡ 0) × (outs ≡ 0)

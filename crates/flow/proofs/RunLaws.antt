@@ -2,7 +2,6 @@
 -- Assumes nothing.
 --
 --   Running                                  k rounds were made, and the lists hold and show their rooms
---   Aside, aside-none, aside-trans           a work list keeps its length and what is no flow
 --   accepted-costed, accepted-beginnable, accepted-ready, running-ready
 --                                            what `begin`, `search` and `descend` ask for
 --   running-start                            before the first round
@@ -39,18 +38,8 @@ use Rattle.flow.specs.Inside.{Costed, Beginnable, Begun}
 use Rattle.flow.proofs.HeldLaws.{Held}
 use Rattle.flow.proofs.ShownLaws.{Shown}
 use Rattle.flow.proofs.NarrowLaws.{narrow-taken, narrow-stuck, narrow-side}
-use Rattle.flow.proofs.WayLaws.{Kept, way-measurable, way-most, way-pushable, way-pushed}
+use Rattle.flow.proofs.WayLaws.{Aside, Kept, way-measurable, way-most, way-pushable, way-pushed}
 use Rattle.flow.proofs.BeginLaws.{arcOf, jobOf, wideOf, netOf, accepted-few, accepted-members, accepted-job, total-small, framed, held-start, shown-start}
-
-pub record Aside (n : ℕ) (F F′ : List ℕ) : Type 0 where
-  pub size : length F′ ≡ length F
-  pub rest : (i : ℕ) → n * n ≤ i → at F′ i ≡ at F i
-
-pub aside-none : (n : ℕ) (F : List ℕ) → Aside n F F
-aside-none n F = record { size = refl; rest = λ i l. refl }
-
-pub aside-trans : (n : ℕ) (F F′ F″ : List ℕ) → Aside n F F′ → Aside n F′ F″ → Aside n F F″
-aside-trans n F F′ F″ a b = record { size = b .size ∙ a .size; rest = λ i l. b .rest i l ∙ a .rest i l }
 
 pub record Running (rows costs : List ℕ) (τ x allowance wide : ℕ) (F G S : List ℕ) (k : ℕ) : Type 0 where
   -- the work list before the first round
@@ -149,7 +138,7 @@ module _ (rows costs : List ℕ) (τ x allowance wide : ℕ) (F G S : List ℕ) 
           (out τ) (inn τ) source qs ps e start (path .nodes) way taken (P .amount) most F₁ G₁ S₁ (subst (λ (z : ℕ). PushedAlong costs z F G S qs ps e (P .amount) F₁ G₁ S₁) (sym (R .width)) (P .pushed))
 
       pub running-aside : Aside (length costs) F F₁
-      running-aside = record { size = kept .size; rest = kept .rest }
+      running-aside = kept .aside
 
       pub running-next : k ≢ allowance → Running rows costs τ x allowance wide F₁ G₁ S₁ (k + 1)
       running-next ne = record {

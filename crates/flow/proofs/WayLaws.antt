@@ -6,6 +6,8 @@
 --   way-measurable            what `amount` asks for
 --   way-most                  what it gives is the largest amount of the rooms
 --   way-pushable              what `push` asks for
+--   Aside, aside-none, aside-trans
+--                             a work list keeps its length and what is no flow
 --   Kept, way-pushed          what it leaves holds and shows the rooms after the push
 use mathlib.Core.Path.{_≡_, refl, sym, ap, _∙_, subst}
 use mathlib.Core.Logic.{inl}
@@ -82,12 +84,22 @@ ones r N a t (b ∷ p) w = (ltb→lt 0 (r a b) (w .1), ones r N b t p (w .2))
 taken-along : (r : Room) (N s t d : ℕ) (p : List ℕ) → s < N → Taken r N s t p → Allows r d s p → Along r N t (dist (step r) N t) d s p
 taken-along r N s t d p l k al = record { inside = l; walk = k .walk; down = walk-down r N t s p l (k .walk) (taken-length r N t s l p k); allows = al }
 
+-- a work list keeps its length and what is no flow
+pub record Aside (n : ℕ) (F F′ : List ℕ) : Type 0 where
+  pub size : length F′ ≡ length F
+  pub rest : (i : ℕ) → n * n ≤ i → at F′ i ≡ at F i
+
+pub aside-none : (n : ℕ) (F : List ℕ) → Aside n F F
+aside-none n F = record { size = refl; rest = λ i l. refl }
+
+pub aside-trans : (n : ℕ) (F F′ F″ : List ℕ) → Aside n F F′ → Aside n F′ F″ → Aside n F F″
+aside-trans n F F′ F″ a b = record { size = b .size ∙ a .size; rest = λ i l. b .rest i l ∙ a .rest i l }
+
 -- the lists after a push along a path hold and show the rooms q, and the work list keeps what is no flow
 pub record Kept (arc : ℕ → ℕ → Bool) (job : ℕ → ℕ) (wide n x : ℕ) (F : List ℕ) (q : Room) (F₁ G₁ S₁ : List ℕ) : Type 0 where
   pub held : Held arc job wide n q F₁ G₁
   pub shown : Shown q n x S₁
-  pub size : length F₁ ≡ length F
-  pub rest : (i : ℕ) → n * n ≤ i → at F₁ i ≡ at F i
+  pub aside : Aside n F F₁
 
 module _ (arc : ℕ → ℕ → Bool) (job : ℕ → ℕ) (wide : ℕ) (costs : List ℕ) (K : Framed arc job wide costs) (x : ℕ) (r : Room) (F G S : List ℕ)
     (H : Held arc job wide (length costs) r F G) (W : Shown r (length costs) x S) where
@@ -124,8 +136,8 @@ module _ (arc : ℕ → ℕ → Bool) (job : ℕ → ℕ) (wide : ℕ) (costs : 
       held = held-same arc job wide (length costs) (push1 m d a b) (push r d a (b ∷ q)) F₂ G₂ same (held-step arc job wide costs K m F₁ G₁ (C .held) a b (A .inside) (A .walk .0) some d allowed F₂ G₂ (v .shifted));
       shown = shown-same (push1 m d a b) (push r d a (b ∷ q)) (length costs) x S₂ same
           (shown-step m (length costs) x S₁ (C .shown) (K .few) a b d (A .inside) (A .walk .0) pos allowed S₂ (λ z. v .filled (read ∙ z)) (λ z. v .partly (λ y. z (sym read ∙ y))));
-      size = shifted-size (length costs) a b d F₁ G₁ F₂ G₂ (v .shifted) ∙ C .size;
-      rest = λ i l. shifted-rest (length costs) a b d F₁ G₁ F₂ G₂ (A .inside) (A .walk .0) (v .shifted) i l ∙ C .rest i l;
+      aside = aside-trans (length costs) F F₁ F₂ (C .aside)
+          (record { size = shifted-size (length costs) a b d F₁ G₁ F₂ G₂ (v .shifted); rest = shifted-rest (length costs) a b d F₁ G₁ F₂ G₂ (A .inside) (A .walk .0) (v .shifted) });
     }
       where
         m : Room
@@ -148,7 +160,7 @@ module _ (arc : ℕ → ℕ → Bool) (job : ℕ → ℕ) (wide : ℕ) (costs : 
 
     along-kept : (a : ℕ) (q F₁ G₁ S₁ : List ℕ) → Along r N t D d a q → Pushed costs wide d F G S a q F₁ G₁ S₁ → Kept arc job wide (length costs) x F (push r d a q) F₁ G₁ S₁
     unfolding push
-    along-kept a [] F₁ G₁ S₁ A none = record { held = H; shown = W; size = refl; rest = λ i l. refl }
+    along-kept a [] F₁ G₁ S₁ A none = record { held = H; shown = W; aside = aside-none (length costs) F }
     along-kept a (b ∷ q) F₂ G₂ S₂ A (more {F₁ = F₁} {G₁ = G₁} {S₁ = S₁} m v) = next a b q F₁ G₁ S₁ F₂ G₂ S₂ A (along-kept b q F₁ G₁ S₁ (along-tail r N t D d a b q A) m) v
 
   -- ---- the round's way

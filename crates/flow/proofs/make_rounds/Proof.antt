@@ -3,7 +3,8 @@ use mathlib.Core.Path.{refl, _∙_}
 use Prim.Native.Nat.{_-_}
 use native.Mathlib.Omega.{arith}
 use Rattle.flow.proofs.BeginLaws.{total-small}
-use Rattle.flow.proofs.RunLaws.{aside-trans, accepted-costed, accepted-beginnable, accepted-ready, running-start, running-sidable}
+use Rattle.flow.proofs.WayLaws.{aside-trans}
+use Rattle.flow.proofs.RunLaws.{accepted-costed, accepted-beginnable, accepted-ready, running-start, running-sidable}
 use Rattle.flow.proofs.LoopLaws.{Searching, searching-start, searching-again, searching-ready, searching-roundable, searching-next, searching-left, searching-layerable, searching-settled, Lowering, lowering-start, lowering-ready, lowering-roundable, lowering-left, lowering-descendable, lowering-next, lowering-search, left-made}
 use Rattle.flow.proofs.make_rounds.Statement.{statement}
 use Rattle.flow.proofs.make_rounds.Tie as tie
