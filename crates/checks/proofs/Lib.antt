@@ -1,3 +1,4 @@
 pub mod RefusalLaws
 pub mod CheckLaws
 pub mod CheckedLaws
+pub mod DueLaws

@@ -9,7 +9,8 @@
 --   crossing-best            after the last round the jobs that cross into the sink's side are the set that the verdict takes
 --   best-crossing            and every set that the verdict may take is that one
 --   best-price               its price is the flow into T
---   best-exists, best-unique there is exactly one
+--   best-exists, best-unique one exists, and where costs are above 0 no other does
+--   best-one                 "There is exactly one such set": the two as one theorem
 use mathlib.Core.Path.{_≡_, sym, _∙_, subst}
 use mathlib.Core.Bool.{Bool, not}
 use Prim.Native.Nat.{ℕ, suc, _*_, _≤_, _<_}
@@ -167,3 +168,7 @@ module _ (w : ℕ → ℕ → Bool) (n τ : ℕ) (cost : ℕ → ℕ) (lτ : τ 
       let same = best-crossing w n τ (inX w n τ) (inx-exact w n τ lτ) lτ apart cost (z .0) (z .1 .room) (z .1 .made) (z .1 .ended)
       (sinkSet (inX w n τ) n τ (z .1 .room)) (sink-exact (inX w n τ) n τ (z .1 .room)) positive in
       same M b u l ∙ sym (same L d u l)
+
+  -- THE THEOREM: "There is exactly one such set; this is to be proved."
+  pub best-one : ((u : ℕ) → u < n → 0 < cost u) → (M : ℕ → Bool) × Best w n τ cost M × ((L : ℕ → Bool) → Best w n τ cost L → (u : ℕ) → u < n → L u ≡ M u)
+  best-one positive = (best-exists .0, best-exists .1, λ L b. best-unique positive L (best-exists .0) b (best-exists .1))

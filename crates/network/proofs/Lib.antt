@@ -8,6 +8,7 @@ pub mod CutLaws
 pub mod ArcLaws
 pub mod Tally
 pub mod FlowLaws
+pub mod StepLaws
 pub mod SetLaws
 pub mod Duality
 pub mod SinkSide

@@ -1,3 +1,4 @@
 pub mod GivenLaws
 pub mod LineLaws
 pub mod TotalLaws
+pub mod Worked

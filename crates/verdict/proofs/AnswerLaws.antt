@@ -1,15 +1,13 @@
--- The verdict is one, and so is its number of rounds (demand 3).
+-- The verdict is one.
 -- Assumes nothing.
 --
 --   rounds-from        rounds from capacities that are the same
 --   capacity-same      the network does not depend on how X is tested
 --   after-rounds       rounds on the network of X, on the computed test of X
 --   verdict-unique     two verdicts with the same allowance are equal
---   Demand             K rounds is what an allowance of K or more gives, and a smaller one gives "not yet" and the allowance; verdict-demand
 use mathlib.Core.Path.{_≡_, refl, sym, ap, _∙_, subst}
-use mathlib.Core.Logic.{_≢_}
 use mathlib.Core.Bool.{Bool}
-use Prim.Native.Nat.{ℕ, _+_, _*_, _/_, _<_, _≤_}
+use Prim.Native.Nat.{ℕ, _*_, _/_, _<_, _≤_}
 use native.Mathlib.Omega.{arith}
 use native.Mathlib.Decide.{ℕ-discrete}
 use lib.Dec.{T}
@@ -21,14 +19,11 @@ use Rattle.graph.specs.Rings.{InX}
 use Rattle.network.specs.Rooms.{Room, step}
 use Rattle.network.specs.Rounds.{Rounds, Stuck}
 use Rattle.network.specs.Rounds.Rounds.{none, more}
-use Rattle.network.specs.Arcs.{inn, out, within, total, jobCapacity, net, capacity, waitCount}
+use Rattle.network.specs.Arcs.{inn, out, within, total, jobCapacity, net, capacity}
 use Rattle.network.specs.Sets.{Best, price}
 use Rattle.network.proofs.SameRooms.{Same, walk-same}
 use Rattle.network.proofs.RoundLaws.{rounds-unique, stuck-last, count-unique}
 use Rattle.network.proofs.SetLaws.{exactly-unique, price-same, inX, inx-exact}
-use Rattle.network.proofs.RingPaths.{no-ring-rounds}
-use Rattle.network.proofs.Counted.{Counted}
-use Rattle.network.proofs.Tally.{capacity-counted}
 use Rattle.network.proofs.BestLaws.{best-unique}
 use Rattle.verdict.specs.Answers.{After, Victims, Verdict}
 use Rattle.verdict.specs.Answers.Verdict.{stays, itself, others, unfinished}
@@ -36,13 +31,6 @@ use Rattle.verdict.specs.Answers.Verdict.{stays, itself, others, unfinis
 pub rounds-from : (N s t : ℕ) (c d : Room) (k : ℕ) (r : Room) → Same N c d → Rounds N s t c k r → Rounds N s t d k r
 rounds-from N s t c d k r same (none f) = none (λ a b la lb. f a b la lb ∙ same a b la lb)
 rounds-from N s t c d k r same (more {k = j} {r = q} x u) = more (rounds-from N s t c d j q same x) u
-
--- the verdict with an allowance, where K is the number of rounds
-pub record Demand (K a o k : ℕ) : Type 0 where
-  -- "an allowance of that many or more gives the verdict and that count"
-  pub enough : K ≤ a → (o ≢ 3) × (k ≡ K)
-  -- "a smaller one gives "not yet" and the allowance"
-  pub less : a < K → (o ≡ 3) × (k ≡ a)
 
 module _ (w : ℕ → ℕ → Bool) (n τ : ℕ) (cost : ℕ → ℕ) where
   pub capacity-same : (x y : ℕ → Bool) → ((u : ℕ) → u < n → x u ≡ y u) → Same (2 * n) (capacity w x n τ cost) (capacity w y n τ cost)
@@ -110,29 +98,3 @@ module _ (w : ℕ → ℕ → Bool) (n τ : ℕ) (cost : ℕ → ℕ) where
       verdict-unique a o p k v o′ p′ k′ v′ (unfinished y g r h m) (itself y′ g′ j′ r′ h′ s′ l′ M′ b′ c′) = absurd (ended j′ a r′ r h′ s′ l′ h m)
       verdict-unique a o p k v o′ p′ k′ v′ (unfinished y g r h m) (others y′ g′ j′ r′ h′ s′ l′ M′ b′ c′ z′ m′) = absurd (ended j′ a r′ r h′ s′ l′ h m)
       verdict-unique a o p k v o′ p′ k′ v′ (unfinished y g r h m) (unfinished y′ g′ r′ h′ m′) = (refl, refl, refl, refl)
-
-    -- ---- demand 3
-
-    -- there is one such number, and it is at most 2n(m + n)
-    pub verdict-demand : (K : ℕ) × (K ≤ 2 * n * (waitCount w n + n)) × ((a o p k v : ℕ) → Verdict w n τ cost a o p k v → Demand K a o k)
-    verdict-demand = (z .0, z .2, each)
-      where
-        z : (K : ℕ) × Counted (2 * n) (out τ) (inn τ) (capacity w (inX w n τ) n τ cost) K × (K ≤ 2 * n * (waitCount w n + n))
-        z = capacity-counted w (inX w n τ) n τ cost lτ
-
-        at : (k : ℕ) (r : Room) → After w n τ cost k r → Stuck (2 * n) (out τ) (inn τ) r → k ≡ z .0
-        at k r h s = z .1 .only k r (after-rounds k r h) s .0
-
-        each : (a o p k v : ℕ) → Verdict w n τ cost a o p k v → Demand (z .0) a o k
-        each a o p k v (stays f) =
-            let e = no-ring-rounds w (inX w n τ) n τ cost lτ f (z .0) (z .1 .room) (z .1 .made) in
-            record { enough = λ l. ((λ q. omega arith), sym e); less = λ l. absurd (omega (arith, e)) }
-        each a o p k v (itself y g j r h s l M b c) = record { enough = λ m. ((λ q. omega arith), at j r h s); less = λ m. absurd (omega (arith, at j r h s)) }
-        each a o p k v (others y g j r h s l M b c t m) = record { enough = λ m. ((λ q. omega arith), at j r h s); less = λ m. absurd (omega (arith, at j r h s)) }
-        each a o p k v (unfinished y g r h m) = record { enough = λ l. absurd (over l); less = λ l. (refl, refl) }
-          where
-            over : z .0 ≤ a → ⊥
-            over l =
-                let e : a ≡ z .0 = omega (arith, z .1 .most a r (after-rounds a r h)) in
-                let q : Rounds (2 * n) (out τ) (inn τ) known a (z .1 .room) = subst (λ (i : ℕ). Rounds (2 * n) (out τ) (inn τ) known i (z .1 .room)) (sym e) (z .1 .made) in
-                z .1 .ended (m .path) (walk-same (2 * n) r (z .1 .room) (rounds-unique (2 * n) (out τ) (inn τ) known a r (z .1 .room) source (after-rounds a r h) q) (out τ) (inn τ) (m .path) source (m .walk))

@@ -1,23 +1,29 @@
--- The whole statement of a verdict call: two results that meet it are equal, and what it says of rounds (demand 3).
+-- The whole statement of a verdict call: two results that meet it are equal.
 -- Assumes nothing.
 --
 --   flows-unique      the work list after k rounds is one
 --   number-unique     an outcome is known by its number; outcome-number-unique: and has one
 --   call-unique       two results of a call are equal, and so are the work lists; on all inputs
---   call-demand       for an input without faults there is one number of rounds, at most 2n(m + n), and what an allowance gives
+--   decided-verdict   what a call that is decided says
+--   wait-zero         "after "wait" these n × n places are 0"
 use mathlib.Core.Path.{_≡_, refl, sym, ap, _∙_, subst}
 use mathlib.Core.List.{List}
-use Prim.Native.Nat.{ℕ, _+_, _*_, _/_, _%_, _<_, _≤_}
+use Prim.Native.Nat.{ℕ, suc, _+_, _*_, _/_, _%_, _<_}
 use native.Mathlib.Nat.{div-add-mod', div-lt-iff-lt-mul, mod-lt}
 use native.Mathlib.Omega.{arith}
 use native.Mathlib.Decide.{decLt}
 use lib.ListN.{length, getD}
 use lib.Seq.{ext-getD}
 use Rattle.sums.specs.Sum.{gate}
+use Rattle.sums.specs.Tests.{both}
+use Rattle.sums.proofs.TestLaws.{both-left}
 use Rattle.graph.specs.Waits.{waits}
 use Rattle.graph.specs.Rings.{InX}
+use Rattle.network.specs.Rooms.{Room}
 use Rattle.network.specs.Rounds.{Rounds}
-use Rattle.network.specs.Arcs.{inn, out, within, waitCount}
+use Rattle.network.specs.Rounds.Rounds.{none, more}
+use Rattle.network.specs.Arcs.{inn, out, within, total, jobCapacity, capacity}
+use Rattle.network.proofs.ArcLaws.{net-unused}
 use Rattle.network.proofs.RoundLaws.{rounds-unique}
 use Rattle.network.proofs.SetLaws.{exactly-unique}
 use Rattle.network.specs.Costs.{costAt}
@@ -28,10 +34,11 @@ use Rattle.verdict.specs.declared.Answer.{Answer}
 use Rattle.verdict.specs.declared.Answer.the-variants.{Refused, Decided}
 use Rattle.checks.specs.Refusals.{Faultless}
 use Rattle.verdict.specs.Answers.{outcomeNumber, Verdict}
+use Rattle.verdict.specs.Answers.Verdict.{stays, itself, others, unfinished}
 use Rattle.verdict.specs.Called.{Flows, Called}
 use Rattle.verdict.specs.Called.Called.{refuses, answers}
 use Rattle.checks.proofs.RefusalLaws.{refusal-unique, refusal-faultless, faultless-job, faultless-apart, faultless-positive}
-use Rattle.verdict.proofs.AnswerLaws.{after-rounds, known, verdict-unique, Demand, verdict-demand}
+use Rattle.verdict.proofs.AnswerLaws.{after-rounds, known, verdict-unique}
 
 -- a place below n × n is that of a pair of jobs
 grid : (n i : ℕ) → i < n * n → (u : ℕ) × (v : ℕ) × (u < n) × (v < n) × (i ≡ u * n + v)
@@ -99,6 +106,10 @@ decisionOf : Decision → Answer → Decision
 decisionOf d (Refused k) = d
 decisionOf d (Decided e) = e
 
+abbrev pub isDecided : Answer → Type 0
+isDecided (Refused k) = ⊥
+isDecided (Decided d) = Unit {0}
+
 pub decided-unique : (d e : Decision) → Decided d ≡ Decided e → d ≡ e
 unfolding decisionOf
 decided-unique d e q = ap (decisionOf d) q
@@ -124,18 +135,44 @@ module _ (rows costs : List ℕ) (τ : ℕ) where
       let q = decision-unique a (length before) d e f v w in
       (ap Decided q, flows-unique rows costs τ (d .rounds) (e .rounds) before after after′ (faultless-job rows costs τ (length before) f) (ap (λ (z : Decision). z .rounds) q) F G)
 
-  -- DEMAND 3, over the call's statement: "For n jobs and m waits there is one number of rounds, at most 2n(m + n)"
-  pub call-demand : (before : List ℕ) → Faultless rows costs τ (length before)
-      → (K : ℕ) × (K ≤ 2 * length rows * (waitCount (waits rows) (length rows) + length rows))
-      × ((a : ℕ) (d : Decision) (after : List ℕ) → Called rows costs τ a before (Decided d) after → Demand K a (outcomeNumber (d .outcome)) (d .rounds))
-  call-demand before f =
-      let z = verdict-demand (waits rows) (length rows) τ (costAt costs) (faultless-job rows costs τ (length before) f) in
-      (z .0, z .1, λ a d after c. each (z .0) (z .2) a (Decided d) after c d refl)
+  -- what a call that is decided says
+  pub decided-verdict : (a : ℕ) (before : List ℕ) (d : Decision) (after : List ℕ) → Called rows costs τ a before (Decided d) after
+      → Faultless rows costs τ (length before)
+      × Verdict (waits rows) (length rows) τ (costAt costs) a (outcomeNumber (d .outcome)) (d .price) (d .rounds) (d .victims)
+      × Flows rows costs τ (d .rounds) before after
+  decided-verdict a before d after c = go (Decided d) after c d refl
     where
-      each : (K : ℕ) → ((a o p k v : ℕ) → Verdict (waits rows) (length rows) τ (costAt costs) a o p k v → Demand K a o k)
-          → (a : ℕ) (x : Answer) (after : List ℕ) → Called rows costs τ a before x after → (d : Decision) → x ≡ Decided d → Demand K a (outcomeNumber (d .outcome)) (d .rounds)
-      each K h a x after (refuses k r) d e = absurd (refusal-faultless rows costs τ (length before) k r f)
-      each K h a x after (answers d′ after″ g v F) d e = h a (outcomeNumber (d .outcome)) (d .price) (d .rounds) (d .victims) (subst Says (decided-unique d′ d e) v)
-        where
-          Says : Decision → Type 0
-          Says z = Verdict (waits rows) (length rows) τ (costAt costs) a (outcomeNumber (z .outcome)) (z .price) (z .rounds) (z .victims)
+      go : (x : Answer) (y : List ℕ) → Called rows costs τ a before x y → (e : Decision) → x ≡ Decided e
+          → Faultless rows costs τ (length before)
+          × Verdict (waits rows) (length rows) τ (costAt costs) a (outcomeNumber (e .outcome)) (e .price) (e .rounds) (e .victims)
+          × Flows rows costs τ (e .rounds) before y
+      go x y (refuses k r) e q = absurd (subst isDecided (sym q) tt)
+      go x y (answers d′ y′ f v F) e q = rw (← decided-unique d′ e q) (f, v, F)
+
+  -- no round, no flow
+  flows-none : (k : ℕ) (before after : List ℕ) → Faultless rows costs τ (length before) → k ≡ 0 → Flows rows costs τ k before after
+      → (u v : ℕ) → u < length rows → v < length rows → getD after (u * length rows + v) 0 ≡ 0
+  unfolding capacity within
+  flows-none k before after f e F u v lu lv =
+      let x = F .rounds .x in
+      F .flow u v lu lv
+      ∙ ap (gate (within (waits rows) x u v)) (start k (F .room) e (F .rounds .made) (inn v) (out u) (omega arith) (omega arith))
+      ∙ net-unused (within (waits rows) x) (jobCapacity x τ (costAt costs)) (suc (total (length rows) x (costAt costs))) u v
+      (λ t. faultless-apart rows costs τ (length before) f u (both-left (waits rows u u) (both (x u) (x u)) t))
+    where
+      start : (j : ℕ) (r : Room) → j ≡ 0 → Rounds (2 * length rows) (out τ) (inn τ) (capacity (waits rows) (F .rounds .x) (length rows) τ (costAt costs)) j r
+          → (a b : ℕ) → a < 2 * length rows → b < 2 * length rows → r a b ≡ capacity (waits rows) (F .rounds .x) (length rows) τ (costAt costs) a b
+      start j r z (none h) = h
+      start j r z (more h s) = absurd (omega (arith, z))
+
+  wait-rounds : (a o p k v : ℕ) → Verdict (waits rows) (length rows) τ (costAt costs) a o p k v → o ≡ 0 → k ≡ 0
+  wait-rounds a o p k v (stays f) e = refl
+  wait-rounds a o p k v (itself y g j r h s m M q c) e = absurd (omega (arith, e))
+  wait-rounds a o p k v (others y g j r h s m M q c z x) e = absurd (omega (arith, e))
+  wait-rounds a o p k v (unfinished y g r h m) e = absurd (omega (arith, e))
+
+  pub wait-zero : (a : ℕ) (before : List ℕ) (d : Decision) (after : List ℕ) → Called rows costs τ a before (Decided d) after → outcomeNumber (d .outcome) ≡ 0
+      → (u v : ℕ) → u < length rows → v < length rows → getD after (u * length rows + v) 0 ≡ 0
+  wait-zero a before d after c z =
+      let q = decided-verdict a before d after c in
+      flows-none (d .rounds) before after (q .0) (wait-rounds a (outcomeNumber (d .outcome)) (d .price) (d .rounds) (d .victims) (q .1) z) (q .2)

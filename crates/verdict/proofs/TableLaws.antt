@@ -2,28 +2,32 @@
 -- Assumes nothing.
 --
 --   agrees n M v      the mask v names just the jobs below n of the set M; agrees-victims
+--   accepted c        the case is an accepted snapshot, tested; accepted-faultless
 --   test c            the verdict of the case computed, and held against what the table says
 --   test-right        a case that passes is right
 --   worked            every case of the table is right
+--   program-case      and so is the document's program case
 use mathlib.Core.Path.{_≡_, refl, sym, subst}
 use mathlib.Core.Logic.{_⊎_, inl, inr}
 use mathlib.Core.Bool.{Bool, true, false, not}
 use mathlib.Core.List.{List, [], _∷_}
-use Prim.Native.Nat.{ℕ, _*_, _^_, _<_, _≤_}
-use native.Mathlib.Nat.{lt-of-lt-of-le}
-use native.Mathlib.Decide.{decLt}
+use Prim.Native.Nat.{ℕ, suc, _*_, _^_, _<_, _≤_}
+use native.Mathlib.Nat.{le-refl, lt-of-lt-of-le}
+use native.Mathlib.Decide.{ℕ-discrete, decLt}
 use native.Mathlib.Omega.{arith}
-use lib.Dec.{T, eqb, ltb, leb, eqb→eq, ltb→lt, lt→ltb, leb→le, T-not, not-T}
+use lib.Dec.{T, eqb, ltb, leb, eqb→eq, ltb→lt, lt→ltb, leb→le, le→leb, T-not, not-T}
 use lib.Pow.{pow-mono}
-use lib.ListN.{length}
+use lib.ListN.{length, getD}
 use Rattle.bits.specs.Mask.{has}
 use Rattle.bits.proofs.Masks.{has-test, test-has}
 use Rattle.bits.proofs.Lowest.{has-below}
-use Rattle.sums.specs.Tests.{both, any}
-use Rattle.sums.proofs.TestLaws.{both-left, both-right, any-intro, tested}
+use Rattle.sums.specs.Tests.{both, either, any}
+use Rattle.sums.specs.Sum.{sum}
+use Rattle.sums.proofs.TestLaws.{both-left, both-right, either-left, either-right, any-intro, tested, eqb-on}
 use Rattle.walks.specs.Walk.{Reaches}
 use Rattle.walks.proofs.ReachLaws.{reach, reach-reaches}
 use Rattle.graph.specs.Waits.{waits}
+use Rattle.graph.proofs.WaitLaws.{waits-has, waits-below}
 use Rattle.graph.specs.Rings.{Ring, RingThrough}
 use Rattle.graph.specs.Rings.RingThrough.{some, none}
 use Rattle.network.specs.Rooms.{Room, step}
@@ -34,9 +38,12 @@ use Rattle.network.proofs.SetLaws.{inX, inx-exact}
 use Rattle.network.proofs.BestLaws.{sinkSet}
 use Rattle.network.proofs.Computed.{ringed, ringed-right, run, Ran, run-right, run-best, unreached-stuck}
 use Rattle.network.specs.Costs.{costAt}
-use Rattle.verdict.specs.Answers.{After, Victims}
+use Rattle.checks.specs.Refusals.{Faultless}
+use Rattle.checks.proofs.RefusalLaws.{faultless-job, faultless-apart}
+use Rattle.checks.proofs.CheckedLaws.{checked-faultless}
+use Rattle.verdict.specs.Answers.{After, Victims, Verdict}
 use Rattle.verdict.specs.Answers.Verdict.{stays, itself, others, unfinished}
-use Rattle.verdict.specs.Worked.{Case, Right, All, table}
+use Rattle.verdict.specs.Worked.{Case, entry, Right, All, table}
 
 -- ---- the victims
 
@@ -123,12 +130,74 @@ settled c z =
 ended : Case → ℕ × Room → Bool
 ended c z = elim (reach (step (z .1)) (2 * n c) (inn 0) (out 0)) [ true ↦ says c 3 0 (c .allowance) 0 | false ↦ settled c z ]
 
+-- a job that no accepted snapshot has: its row names a job n or above or itself, or its cost is out of range
+abbrev misnamed : Case → ℕ → Bool
+misnamed c u = either (leb (2 ^ n c) (getD (c .rows) u 0)) (w c u u)
+
+abbrev mispriced : Case → ℕ → Bool
+mispriced c u = either (eqb (cost c u) 0) (ltb (2 ^ 42) (cost c u))
+
+unfit : Case → ℕ → Bool
+unfit c u = either (misnamed c u) (mispriced c u)
+
+accepted : Case → Bool
+accepted c = both (both (ltb 0 (n c)) (leb (n c) 64)) (both (both (eqb (length (c .costs)) (n c)) (leb (suc (sum (n c) (cost c))) (2 ^ 63))) (not (any (n c) (unfit c))))
+
 test : Case → Bool
 test c =
-    both (both (ltb 0 (n c)) (not (any (n c) (λ u. w c u u))))
+    both (accepted c)
     (elim (ringed (w c) (n c) 0) [ true ↦ ended c (run (2 * n c) (out 0) (inn 0) (c .allowance) 0 (capacity (w c) (x c) (n c) 0 (cost c))) | false ↦ says c 0 0 0 0 ])
 
 -- ---- a case that passes is right
+
+accepted-faultless : (c : Case) → T (accepted c) → Faultless (c .rows) (c .costs) 0 (n c * n c)
+unfolding accepted unfit
+accepted-faultless c t = checked-faultless (c .rows) (c .costs) 0 (n c * n c) (record {
+  some = λ m. let l = some in λ e. omega arith;
+  few = λ m. leb→le (n c) 64 (both-right (ltb 0 (n c)) (leb (n c) 64) size);
+  even = λ m. eqb→eq (length (c .costs)) (n c) (both-left (eqb (length (c .costs)) (n c)) (leb (suc (sum (n c) (cost c))) (2 ^ 63)) sums);
+  wide = λ m. le-refl (n c * n c);
+  known = λ m j i h. let l = waits-below (c .rows) j i h in has-below (n c) (getD (c .rows) j 0) i (fits j l .0) (waits-has (c .rows) j i h);
+  apart = λ m j h. fits j (waits-below (c .rows) j j h) .1 h;
+  there = λ m. some;
+  fit = λ m j l. (fits j l .2, fits j l .3);
+  light = λ m. leb→le (suc (sum (n c) (cost c))) (2 ^ 63) (both-right (eqb (length (c .costs)) (n c)) (leb (suc (sum (n c) (cost c))) (2 ^ 63)) sums);
+})
+  where
+    size : T (both (ltb 0 (n c)) (leb (n c) 64))
+    size = both-left (both (ltb 0 (n c)) (leb (n c) 64)) _ t
+
+    some : 0 < n c
+    some = ltb→lt 0 (n c) (both-left (ltb 0 (n c)) (leb (n c) 64) size)
+
+    rest : T (both (both (eqb (length (c .costs)) (n c)) (leb (suc (sum (n c) (cost c))) (2 ^ 63))) (not (any (n c) (unfit c))))
+    rest = both-right (both (ltb 0 (n c)) (leb (n c) 64)) _ t
+
+    sums : T (both (eqb (length (c .costs)) (n c)) (leb (suc (sum (n c) (cost c))) (2 ^ 63)))
+    sums = both-left (both (eqb (length (c .costs)) (n c)) (leb (suc (sum (n c) (cost c))) (2 ^ 63))) _ rest
+
+    -- what a job is that is not unfit
+    fits : (u : ℕ) → u < n c → (getD (c .rows) u 0 < 2 ^ n c) × (T (w c u u) → ⊥) × (0 < cost c u) × (cost c u ≤ 2 ^ 42)
+    fits u l = (go (decLt (getD (c .rows) u 0) (2 ^ n c)), (λ h. none (either-left (misnamed c u) (mispriced c u) (either-right (leb (2 ^ n c) (getD (c .rows) u 0)) (w c u u) h))), paid (ℕ-discrete (cost c u) 0), cheap (decLt (2 ^ 42) (cost c u)))
+      where
+        none : T (unfit c u) → ⊥
+        none h = T-not (any (n c) (unfit c)) (both-right (both (eqb (length (c .costs)) (n c)) (leb (suc (sum (n c) (cost c))) (2 ^ 63))) _ rest) (any-intro (n c) (unfit c) u l h)
+
+        go : Dec (getD (c .rows) u 0 < 2 ^ n c) → getD (c .rows) u 0 < 2 ^ n c
+        go (yes m) = m
+        go (no m) = absurd (none (either-left (misnamed c u) (mispriced c u) (either-left (leb (2 ^ n c) (getD (c .rows) u 0)) (w c u u) (le→leb (2 ^ n c) (getD (c .rows) u 0) (omega arith)))))
+
+        paid : Dec (cost c u ≡ 0) → 0 < cost c u
+        paid (yes e) = absurd (none (either-right (misnamed c u) (mispriced c u) (either-left (eqb (cost c u) 0) (ltb (2 ^ 42) (cost c u)) (rw (eqb-on (cost c u) 0 e) tt))))
+        paid (no e) = omega arith
+
+        cheap : Dec (2 ^ 42 < cost c u) → cost c u ≤ 2 ^ 42
+        cheap (yes m) = absurd (none (either-right (misnamed c u) (mispriced c u) (either-right (eqb (cost c u) 0) (ltb (2 ^ 42) (cost c u)) (lt→ltb (2 ^ 42) (cost c u) m))))
+        cheap (no m) = omega arith
+
+-- the verdict of the case is what the table says
+abbrev Says : Case → Type 0
+Says c = Verdict (w c) (n c) 0 (cost c) (c .allowance) (c .outcome) (c .price) (c .rounds) (c .victims)
 
 module _ (c : Case) (lτ : 0 < n c) (apart : (u : ℕ) → u < n c → T (w c u u) → ⊥) (p : List ℕ) (ring : Ring (w c) (n c) 0 p) (z : ℕ × Room)
     (R : Ran (2 * n c) (out 0) (inn 0) (capacity (w c) (x c) (n c) 0 (cost c)) (c .allowance) z) where
@@ -139,7 +208,7 @@ module _ (c : Case) (lτ : 0 < n c) (apart : (u : ℕ) → u < n c → T (w c u 
       → T (elim b [
         | true ↦ says c 1 (cost c 0) (z .0) 1
         | false ↦ both (says c 2 (price (n c) (cost c) (sinkSet (x c) (n c) 0 (z .1))) (z .0) (c .victims)) (agrees (n c) (sinkSet (x c) (n c) 0 (z .1)) (c .victims))
-      ]) → Right c
+      ]) → Says c
   settled-right true e stuck t =
       let q = says-eq c 1 (cost c 0) (z .0) 1 t in
       let M = sinkSet (x c) (n c) 0 (z .1) in
@@ -160,14 +229,14 @@ module _ (c : Case) (lτ : 0 < n c) (apart : (u : ℕ) → u < n c → T (w c u 
           go (yes l) = absurd (subst T e (lt→ltb i j l))
           go (no l) = omega arith
 
-  ended-right : (b : Bool) → reach (step (z .1)) (2 * n c) (inn 0) (out 0) ≡ b → T (elim b [ true ↦ says c 3 0 (c .allowance) 0 | false ↦ settled c z ]) → Right c
+  ended-right : (b : Bool) → reach (step (z .1)) (2 * n c) (inn 0) (out 0) ≡ b → T (elim b [ true ↦ says c 3 0 (c .allowance) 0 | false ↦ settled c z ]) → Says c
   unfolding settled
   ended-right true e t = go (R .ended)
     where
       path : Reaches (step (z .1)) (2 * n c) (out 0) (inn 0)
       path = reach-reaches (step (z .1)) (2 * n c) (inn 0) (out 0) (subst T (sym e) tt)
 
-      go : Stuck (2 * n c) (out 0) (inn 0) (z .1) ⊎ (z .0 ≡ c .allowance) → Right c
+      go : Stuck (2 * n c) (out 0) (inn 0) (z .1) ⊎ (z .0 ≡ c .allowance) → Says c
       go (inl stuck) = absurd (stuck (path .path) (path .walk))
       go (inr k) =
           let q = says-eq c 3 0 (c .allowance) 0 t in
@@ -178,25 +247,19 @@ module _ (c : Case) (lτ : 0 < n c) (apart : (u : ℕ) → u < n c → T (w c u 
 
 test-right : (c : Case) → T (test c) → Right c
 unfolding test ended
-test-right c t = go (ringed (w c) (n c) 0) (ringed-right (w c) (n c) 0) rest
+test-right c t = (ok, go (ringed (w c) (n c) 0) (ringed-right (w c) (n c) 0) (both-right (accepted c) _ t))
   where
-    z : ℕ × Room
-    z = run (2 * n c) (out 0) (inn 0) (c .allowance) 0 (capacity (w c) (x c) (n c) 0 (cost c))
-
-    head : T (both (ltb 0 (n c)) (not (any (n c) (λ u. w c u u))))
-    head = both-left (both (ltb 0 (n c)) (not (any (n c) (λ u. w c u u)))) _ t
-
-    rest : T (elim (ringed (w c) (n c) 0) [ true ↦ ended c (run (2 * n c) (out 0) (inn 0) (c .allowance) 0 (capacity (w c) (x c) (n c) 0 (cost c))) | false ↦ says c 0 0 0 0 ])
-    rest = both-right (both (ltb 0 (n c)) (not (any (n c) (λ u. w c u u)))) _ t
+    ok : Faultless (c .rows) (c .costs) 0 (n c * n c)
+    ok = accepted-faultless c (both-left (accepted c) _ t)
 
     lτ : 0 < n c
-    lτ = ltb→lt 0 (n c) (both-left (ltb 0 (n c)) (not (any (n c) (λ u. w c u u))) head)
+    lτ = faultless-job (c .rows) (c .costs) 0 (n c * n c) ok
 
     apart : (u : ℕ) → u < n c → T (w c u u) → ⊥
-    apart u l h = T-not (any (n c) (λ v. w c v v)) (both-right (ltb 0 (n c)) (not (any (n c) (λ v. w c v v))) head) (any-intro (n c) (λ v. w c v v) u l h)
+    apart u l = faultless-apart (c .rows) (c .costs) 0 (n c * n c) ok u
 
     go : (b : Bool) → RingThrough (w c) (n c) 0 b
-        → T (elim b [ true ↦ ended c (run (2 * n c) (out 0) (inn 0) (c .allowance) 0 (capacity (w c) (x c) (n c) 0 (cost c))) | false ↦ says c 0 0 0 0 ]) → Right c
+        → T (elim b [ true ↦ ended c (run (2 * n c) (out 0) (inn 0) (c .allowance) 0 (capacity (w c) (x c) (n c) 0 (cost c))) | false ↦ says c 0 0 0 0 ]) → Says c
     go true (some p ring) s = ended-right c lτ apart p ring (run (2 * n c) (out 0) (inn 0) (c .allowance) 0 (capacity (w c) (x c) (n c) 0 (cost c)))
         (run-right (2 * n c) (out 0) (inn 0) (capacity (w c) (x c) (n c) 0 (cost c)) (omega (arith, lτ)) (λ e. omega arith) (c .allowance))
         (reach (step (run (2 * n c) (out 0) (inn 0) (c .allowance) 0 (capacity (w c) (x c) (n c) 0 (cost c)) .1)) (2 * n c) (inn 0) (out 0)) refl s
@@ -215,5 +278,10 @@ each (c ∷ cs) t = (test-right c (both-left (test c) (every cs) t), each cs (bo
 
 -- THE THEOREM: each case of the table is right
 pub worked : All Right table
-unfolding every test ended settled says agrees same any waits ringed run capacity inX costAt price sinkSet
+unfolding every test accepted unfit ended settled says agrees same any sum waits ringed run capacity inX costAt price sinkSet
 worked = each table tt
+
+-- the verdict of the document's program case: "costs 35 and 13, job 1 goes"
+pub program-case : Right (entry (2 ∷ 1 ∷ []) (35 ∷ 13 ∷ []) 64 2 13 1 2)
+unfolding every test accepted unfit ended settled says agrees same any sum waits ringed run capacity inX costAt price sinkSet
+program-case = test-right (entry (2 ∷ 1 ∷ []) (35 ∷ 13 ∷ []) 64 2 13 1 2) tt

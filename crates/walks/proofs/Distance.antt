@@ -2,13 +2,14 @@
 -- Assumes nothing.
 --
 --   tab n f               f 0, .., f (n - 1) as a list
+--   patched-exists        a list of which the first n places are replaced
 --   levels st N t k       the nodes below N from which t is at most k steps away, as a list of N marks
 --   near st N t k a       a is one of them
 --   dist st N t a         how many steps t is away from a, and N where t is not reached
 --   near-step, near-cases, near-mono      from level to level
 --   dist-step, dist-down, dist-closed     from node to node; N levels are enough
 --   walk-dist, walk-long, dist-walk       walks and distances
-use mathlib.Core.Path.{_≡_, refl, sym, ap, subst}
+use mathlib.Core.Path.{_≡_, refl, sym, ap, _∙_, subst}
 use mathlib.Core.Logic.{_⊎_, inl, inr}
 use mathlib.Core.Bool.{Bool, false}
 use mathlib.Core.List.{List, [], _∷_}
@@ -17,7 +18,7 @@ use native.Mathlib.Nat.{not-suc-le-zero, le-of-suc-le-suc}
 use native.Mathlib.Decide.{ℕ-discrete, decLt}
 use native.Mathlib.Omega.{arith}
 use lib.Dec.{T, leb, eqb, leb→le, le→leb, eqb→eq, eqb-refl}
-use lib.ListN.{length, getD}
+use lib.ListN.{length, getD, List·getD-eq-default}
 use Rattle.sums.specs.Tests.{both, either, any}
 use Rattle.sums.specs.Sum.{sum, gate}
 use Rattle.sums.proofs.TestLaws.{both-intro, both-left, both-right, either-left, either-right, either-cases, any-intro, any-elim}
@@ -46,6 +47,11 @@ unfoldable pub dist : (ℕ → ℕ → Bool) → ℕ → ℕ → ℕ → ℕ
 unfolding least levels
 dist st N t a = least N (λ k. near st N t k a)
 
+pub length-tab : {A : Type 0} (n : ℕ) (f : ℕ → A) → length (tab n f) ≡ n
+unfolding tab
+length-tab zero f = refl
+length-tab (suc n) f = ap suc (length-tab n (λ i. f (suc i)))
+
 pub getD-tab : {A : Type 0} (n : ℕ) (f : ℕ → A) (d : A) (i : ℕ) → i < n → getD (tab n f) i d ≡ f i
 unfolding tab
 getD-tab zero f d i l = absurd (not-suc-le-zero l)
@@ -57,6 +63,41 @@ unfolding tab
 getD-tab-out zero f d i l = refl
 getD-tab-out (suc n) f d zero l = absurd (not-suc-le-zero l)
 getD-tab-out (suc n) f d (suc i) l = getD-tab-out n (λ j. f (suc j)) d i (le-of-suc-le-suc l)
+
+-- a list whose first n places are those of f and whose other places are those of another list
+pub record Patched (n : ℕ) (f : ℕ → ℕ) (before after : List ℕ) : Type 0 where
+  pub size : length after ≡ length before
+  pub first : (i : ℕ) → i < n → getD after i 0 ≡ f i
+  pub rest : (i : ℕ) → n ≤ i → getD after i 0 ≡ getD before i 0
+
+pub patched-exists : (n : ℕ) (f : ℕ → ℕ) (before : List ℕ) → n ≤ length before → (after : List ℕ) × Patched n f before after
+patched-exists n f before l = (
+  tab (length before) value,
+  record {
+    size = length-tab (length before) value;
+    first = λ i m. getD-tab (length before) value 0 i (omega arith) ∙ here i (decLt i n) m;
+    rest = λ i m. past i m (decLt i (length before));
+  },
+)
+  where
+    by : (i : ℕ) → Dec (i < n) → ℕ
+    by i (yes m) = f i
+    by i (no m) = getD before i 0
+
+    value : ℕ → ℕ
+    value i = by i (decLt i n)
+
+    here : (i : ℕ) (d : Dec (i < n)) → i < n → by i d ≡ f i
+    here i (yes m) h = refl
+    here i (no m) h = absurd (m h)
+
+    there : (i : ℕ) (d : Dec (i < n)) → n ≤ i → by i d ≡ getD before i 0
+    there i (yes m) h = absurd (omega arith)
+    there i (no m) h = refl
+
+    past : (i : ℕ) → n ≤ i → Dec (i < length before) → getD (tab (length before) value) i 0 ≡ getD before i 0
+    past i m (yes h) = getD-tab (length before) value 0 i h ∙ there i (decLt i n) m
+    past i m (no h) = getD-tab-out (length before) value 0 i (omega arith) ∙ sym (List·getD-eq-default before 0 (omega arith))
 
 -- ---- levels
 

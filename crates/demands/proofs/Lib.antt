@@ -1,0 +1,4 @@
+pub mod RightLaws
+pub mod NeedLaws
+pub mod ReadingLaws
+pub mod Demands
