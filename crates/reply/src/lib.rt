@@ -9,6 +9,9 @@ ghost use Rattle.checks.specs.Refusals.{Faultless};
 ghost use Rattle.verdict.specs.Answers.{Verdict};
 ghost use Rattle.reply.specs.Replied.{Replied};
 
+// The document's number of the outcome "not yet".
+const NOT_YET: u8 = 3;
+
 // The verdict on jobs without faults.
 fn decide(rows: &[u64], costs: &[u64], t: usize, allowance: u32) -> frames::Answer
     requires { ⌜ Faultless (now rows) (now costs) t 4096 ⌝ }
@@ -17,7 +20,8 @@ fn decide(rows: &[u64], costs: &[u64], t: usize, allowance: u32) -> frames::Answ
     let mut work = [0u64; 4096];
     let answer = verdict::verdict(rows, costs, t, allowance, &mut work);
     match answer {
-        verdict::Answer::Refused(k) => frames::Answer::new(k, 0, 0, 0),
+        // Never met while nobody changes the text. Where somebody does, nothing is decided: "not yet".
+        verdict::Answer::Refused(_number) => frames::Answer::new(NOT_YET, 0, 0, 0),
         verdict::Answer::Decided(d) => framed::answer_frame(d),
     }
 }
