@@ -1,6 +1,7 @@
 /* A small coordinator: it keeps a table of who holds and who waits at each
- * pool, turns it into a call of pasagumdil_verdict() when a job times out, and
- * says in words what to do. */
+ * pool, when each job was issued and how many operations it has submitted. When
+ * a job times out it works out what each job would cost, turns all of it into a
+ * call of pasagumdil_verdict(), and says in words what to do. */
 #include "pasagumdil.h"
 
 #include <inttypes.h>
@@ -9,14 +10,44 @@
 
 enum { JOBS = 5, POOLS = 4 };
 
+/* What an operation and a tick of age weigh in a cost. */
+enum { OPERATION_WEIGHT = 2, TICK_WEIGHT = 1 };
+
 /* What a job does at a pool. */
 enum state { NONE, HOLDS, WAITS };
 
-struct farm {
-    unsigned jobs; /* at most JOBS */
-    enum state at[JOBS][POOLS];
-    uint64_t cost[JOBS];
+struct job {
+    uint32_t issued;     /* the tick at which its present run was issued */
+    uint32_t operations; /* submitted since, 1 or more */
 };
+
+/* Ticks are milliseconds on a counter of 32 bits, which wraps every 49 days. */
+struct farm {
+    uint32_t now; /* the present tick */
+    struct job job[JOBS];
+    enum state at[JOBS][POOLS];
+};
+
+/* ---- What a job costs ---- */
+
+/* The age in ticks. The subtraction is made in 32 bits, so that it is right
+ * across a wrap of the counter; in 64 bits it would not be. */
+static uint32_t age_of(const struct farm *farm, unsigned j)
+{
+    return (uint32_t)(farm->now - farm->job[j].issued);
+}
+
+/* An age of 2^31 or more is a clock that went back: it gives no cost. */
+static bool clock_went_back(const struct farm *farm, unsigned j)
+{
+    return age_of(farm, j) >= UINT32_C(0x80000000);
+}
+
+static uint64_t cost_of(const struct farm *farm, unsigned j)
+{
+    return (uint64_t)OPERATION_WEIGHT * farm->job[j].operations +
+           (uint64_t)TICK_WEIGHT * age_of(farm, j);
+}
 
 /* ---- Numbers as bytes, the most significant first ---- */
 
@@ -52,6 +83,7 @@ static bool waits_for(const struct farm *farm, unsigned j, unsigned i)
 
 struct verdict {
     enum pasagumdil_refusal refusal;
+    unsigned job; /* whose age is wrong, where the clock went back */
     enum pasagumdil_outcome outcome;
     uint64_t price, victims;
     uint32_t rounds;
@@ -64,20 +96,24 @@ static struct verdict ask(const struct farm *farm, uint64_t t,
     uint8_t costs[JOBS * PASAGUMDIL_NUMBER_BYTES];
     uint8_t work[JOBS * JOBS * PASAGUMDIL_NUMBER_BYTES];
     uint8_t answer[PASAGUMDIL_ANSWER_BYTES];
-    size_t length = farm->jobs * PASAGUMDIL_NUMBER_BYTES;
-    for (unsigned j = 0; j < farm->jobs; j++) {
+    struct verdict verdict = {0};
+    for (unsigned j = 0; j < JOBS; j++) {
+        if (clock_went_back(farm, j)) {
+            verdict.refusal = PASAGUMDIL_CLOCK_WENT_BACK;
+            verdict.job = j;
+            return verdict;
+        }
         uint64_t row = 0;
-        for (unsigned i = 0; i < farm->jobs; i++) {
+        for (unsigned i = 0; i < JOBS; i++) {
             if (waits_for(farm, j, i)) {
                 row |= (uint64_t)1 << i;
             }
         }
         put_number(rows + j * PASAGUMDIL_NUMBER_BYTES, row);
-        put_number(costs + j * PASAGUMDIL_NUMBER_BYTES, farm->cost[j]);
+        put_number(costs + j * PASAGUMDIL_NUMBER_BYTES, cost_of(farm, j));
     }
-    struct verdict verdict = {0};
-    verdict.refusal = pasagumdil_verdict(rows, length, costs, length, t,
-                                         allowance, work, sizeof work,
+    verdict.refusal = pasagumdil_verdict(rows, sizeof rows, costs, sizeof costs,
+                                         t, allowance, work, sizeof work,
                                          answer, sizeof answer);
     if (verdict.refusal == PASAGUMDIL_ANSWERED) {
         verdict.outcome = answer[1];
@@ -101,9 +137,17 @@ static void say_jobs(uint64_t jobs)
     }
 }
 
-static void say(const char *night, uint64_t t, struct verdict verdict)
+static void say(const char *night, const struct farm *farm, uint64_t t,
+                uint32_t allowance)
 {
+    struct verdict verdict = ask(farm, t, allowance);
     printf("%s: job %" PRIu64 " has timed out. ", night, t);
+    if (verdict.refusal == PASAGUMDIL_CLOCK_WENT_BACK) {
+        printf("The clock went back: job %u was issued at tick %" PRIu32
+               ", and it is tick %" PRIu32 ". Nothing is aborted.\n",
+               verdict.job, farm->job[verdict.job].issued, farm->now);
+        return;
+    }
     if (verdict.refusal != PASAGUMDIL_ANSWERED) {
         printf("The call was refused, number %d.\n", (int)verdict.refusal);
         return;
@@ -122,8 +166,8 @@ static void say(const char *night, uint64_t t, struct verdict verdict)
         printf(": that costs %" PRIu64 ".\n", verdict.price);
         break;
     case PASAGUMDIL_NOT_YET:
-        printf("Not known yet after %" PRIu32 " rounds: ask again.\n",
-               verdict.rounds);
+        printf("Not known yet, rounds made: %" PRIu32
+               ". Ask again with a larger allowance.\n", verdict.rounds);
         break;
     }
 }
@@ -134,7 +178,6 @@ int main(void)
      * and job 3 waits at pool 2 for job 0. Job 4 waits at pool 3, which nobody
      * holds. */
     struct farm farm = {
-        .jobs = 5,
         .at = {
             {WAITS, NONE, HOLDS, NONE},
             {HOLDS, WAITS, NONE, NONE},
@@ -142,15 +185,43 @@ int main(void)
             {NONE, HOLDS, WAITS, NONE},
             {NONE, NONE, NONE, WAITS},
         },
-        .cost = {20, 2, 3, 9, 1},
     };
-    say("Monday", 0, ask(&farm, 0, UINT32_MAX));
-    farm.cost[3] = 5;
-    say("Tuesday", 0, ask(&farm, 0, UINT32_MAX));
-    farm.cost[0] = 4;
-    say("Wednesday", 0, ask(&farm, 0, UINT32_MAX));
-    say("Thursday", 4, ask(&farm, 4, UINT32_MAX));
-    say("Friday", 0, ask(&farm, 0, 1));
-    say("Saturday", 300, ask(&farm, 300, UINT32_MAX));
+    /* The counter wraps between Tuesday and Thursday: on Wednesday jobs 2 and 3
+     * were issued before the wrap, the others at the present tick 0. On Sunday
+     * somebody has set the clock back. */
+    static const struct {
+        const char *name;
+        uint64_t t;
+        uint32_t allowance, now;
+        struct job job[JOBS];
+    } nights[] = {
+        {"Monday", 0, UINT32_MAX, 4100000020,
+         {{4100000004, 2}, {4100000020, 1}, {4100000019, 1}, {4100000017, 3},
+          {4100000010, 1}}},
+        {"Tuesday", 0, UINT32_MAX, 4200000020,
+         {{4200000004, 2}, {4200000020, 1}, {4200000019, 1}, {4200000017, 1},
+          {4200000010, 1}}},
+        {"Wednesday", 0, UINT32_MAX, 0,
+         {{0, 2}, {0, 1}, {4294967295, 1}, {4294967291, 2}, {0, 1}}},
+        {"Thursday", 4, UINT32_MAX, 90000000,
+         {{89999984, 2}, {90000000, 1}, {89999999, 1}, {89999997, 3},
+          {89999990, 1}}},
+        {"Friday", 0, 1, 180000000,
+         {{179999984, 2}, {180000000, 1}, {179999999, 1}, {179999997, 3},
+          {179999990, 1}}},
+        {"Saturday", 300, UINT32_MAX, 260000000,
+         {{259999984, 2}, {260000000, 1}, {259999999, 1}, {259999997, 3},
+          {259999990, 1}}},
+        {"Sunday", 0, UINT32_MAX, 349999995,
+         {{349999984, 2}, {349999990, 1}, {350000000, 1}, {349999992, 3},
+          {349999990, 1}}},
+    };
+    for (size_t i = 0; i < sizeof nights / sizeof nights[0]; i++) {
+        farm.now = nights[i].now;
+        for (unsigned j = 0; j < JOBS; j++) {
+            farm.job[j] = nights[i].job[j];
+        }
+        say(nights[i].name, &farm, nights[i].t, nights[i].allowance);
+    }
     return 0;
 }
