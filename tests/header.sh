@@ -1,6 +1,7 @@
 #!/bin/sh
 # What include/pasagumdil.h says that no theorem settles: that it compiles by itself as C99 and as C++17, what the library needs
 # from the C library, that it has no data that can be written, the version, the refusal numbers, and null pointers for empty lists.
+# And the snapshots of docs/FORMAT.md, worked out by hand there, through the text function.
 set -eu
 cd "$(dirname "$0")/.."
 folder=$(mktemp -d)
@@ -44,7 +45,25 @@ version=$(number VERSION | tr -d '"')
 seq 1 18 > "$folder/numbers"
 sed -n '/^enum pasagumdil_refusal/,/^};/s/.* = \([0-9]*\),\{0,1\}$/\1/p' "$header" | sed 1d > "$folder/constants"
 cmp -s "$folder/numbers" "$folder/constants" || fail "enum pasagumdil_refusal does not have 1 to 18, each once and in order"
-sed -n 's/^| \([0-9][0-9]*\) | .*/\1/p' docs/DESK-CARD.md | sort -n > "$folder/rows"
+awk '/^[|] No[.] [|]/ { on = 1 } !/^[|]/ { on = 0 } on && $2 ~ /^[0-9]+$/ { print $2 }' docs/DESK-CARD.md | sort -n > "$folder/rows"
 cmp -s "$folder/numbers" "$folder/rows" || fail "docs/DESK-CARD.md does not have a row for each refusal from 1 to 18"
+
+# The snapshot that docs/FORMAT.md writes by hand, and the same with one line changed, as its last table has it.
+sh tests/link.sh "$folder/line" tests/header_line.c
+awk '/^```/ { on = $0 == "```snapshot"; next } on' docs/FORMAT.md > "$folder/snapshot"
+tried=0
+# hold LINE: the line that the page gives for the text on standard input.
+hold() {
+    found=$("$folder/line")
+    [ "$found" = "$1" ] || fail "docs/FORMAT.md gives $1, and the text function $found"
+    tried=$((tried + 1))
+}
+hold "$(awk '/^```/ { on = $0 == "```answer"; next } on' docs/FORMAT.md)" < "$folder/snapshot"
+sed -n 's/^| \([0-9]*\) | `\([0-9A-F]*\)` | `\([0-9A-F]*\)` | .*/\1 \2 \3/p' docs/FORMAT.md > "$folder/changed"
+while read -r place becomes answer; do
+    sed "${place}s/.*/$becomes/" "$folder/snapshot" > "$folder/text"
+    hold "$answer" < "$folder/text"
+done < "$folder/changed"
+[ "$tried" -eq 9 ] || fail "docs/FORMAT.md has $tried snapshots with their answers, and not 9"
 
 echo "header: all well"
