@@ -1,10 +1,10 @@
 # Draws the time of a call on pool tables against the number of jobs, as SVG: the
-# proved code and the reference.
+# proved code, the reference, and the two libraries where they were measured.
 
 $1 == "time" && $2 ~ /^pools-/ {
     n = substr($2, 7) + 0
     micros[$3, n] = $4 / 1000
-    if (($3 == "proved" || $3 == "reference") && $4 / 1000 > top) top = $4 / 1000
+    if ($4 / 1000 > top) top = $4 / 1000
 }
 $1 == "fact" && $2 == "archive" { given = 1 }
 $1 == "fact" && $2 == "machine" { machine = $3 }
@@ -29,9 +29,17 @@ function curve(contender, colour, dash,   n, points) {
     for (n = 4; n <= 64; n += 4) printf "<circle cx=\"%.1f\" cy=\"%.1f\" r=\"3\" fill=\"%s\"/>\n", across(n), up(micros[contender, n]), colour
 }
 
-function key(row, label, colour, dash) {
-    printf "<line x1=\"%d\" y1=\"%d\" x2=\"%d\" y2=\"%d\" stroke=\"%s\" stroke-width=\"2\"%s/>\n", left + 20, 68 + 22 * row, left + 52, 68 + 22 * row, colour, dash
-    printf "<text x=\"%d\" y=\"%d\">%s</text>\n", left + 60, 73 + 22 * row, label
+function key(label, colour, dash) {
+    printf "<line x1=\"%d\" y1=\"%d\" x2=\"%d\" y2=\"%d\" stroke=\"%s\" stroke-width=\"2\"%s/>\n", left + 20, 68 + 22 * keys, left + 52, 68 + 22 * keys, colour, dash
+    printf "<text x=\"%d\" y=\"%d\" stroke=\"#fff\" stroke-width=\"5\" paint-order=\"stroke\">%s</text>\n", left + 60, 73 + 22 * keys, label
+    keys++
+}
+
+# A contender's curve and its key, where it was measured.
+function draw(contender, label, colour, dash) {
+    if (!((contender, 64) in micros)) return
+    curve(contender, colour, dash)
+    key(label, colour, dash)
 }
 
 END {
@@ -50,10 +58,9 @@ END {
     for (n = 0; n <= 64; n += 8) printf "<text x=\"%.1f\" y=\"%d\" text-anchor=\"middle\">%d</text>\n", across(n), bottom + 22, n
     printf "<text x=\"%d\" y=\"%d\" text-anchor=\"middle\">jobs</text>\n", left + wide / 2, bottom + 46
     printf "<text x=\"18\" y=\"%d\" text-anchor=\"middle\" transform=\"rotate(-90 18 %d)\">microseconds a call</text>\n", bottom - tall / 2, bottom - tall / 2
-    dash = " stroke-dasharray=\"6 4\""
-    curve("reference", "#c05000", "")
-    curve("proved", "#0060a0", dash)
-    key(0, "reference in C", "#c05000", "")
-    key(1, given ? "proved" : "proved (stub: calls the reference)", "#0060a0", dash)
+    draw("boost", "Boost, the price only", "#8040a0", " stroke-dasharray=\"10 3 2 3\"")
+    draw("lemon", "LEMON, the price only", "#2a8a3a", " stroke-dasharray=\"2 3\"")
+    draw("reference", "reference in C", "#c05000", "")
+    draw("proved", given ? "proved" : "proved (stub: calls the reference)", "#0060a0", " stroke-dasharray=\"6 4\"")
     print "</svg>"
 }
