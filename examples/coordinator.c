@@ -186,9 +186,10 @@ int main(void)
             {NONE, NONE, NONE, WAITS},
         },
     };
-    /* The counter wraps between Tuesday and Thursday: on Wednesday jobs 2 and 3
-     * were issued before the wrap, the others at the present tick 0. On Sunday
-     * somebody has set the clock back. */
+    /* The counter wraps on Wednesday: jobs 2 and 3 were issued before the wrap,
+     * the others at the present tick 0. On Thursday job 0 is 2^31 - 1 ticks
+     * old, as old as a job can be. On Sunday somebody has set the clock back, by
+     * so much that job 2 looks a tick older than that. */
     static const struct {
         const char *name;
         uint64_t t;
@@ -204,7 +205,7 @@ int main(void)
         {"Wednesday", 0, UINT32_MAX, 0,
          {{0, 2}, {0, 1}, {4294967295, 1}, {4294967291, 2}, {0, 1}}},
         {"Thursday", 4, UINT32_MAX, 90000000,
-         {{89999984, 2}, {90000000, 1}, {89999999, 1}, {89999997, 3},
+         {{2237483649, 2}, {90000000, 1}, {89999999, 1}, {89999997, 3},
           {89999990, 1}}},
         {"Friday", 0, 1, 180000000,
          {{179999984, 2}, {180000000, 1}, {179999999, 1}, {179999997, 3},
@@ -213,7 +214,7 @@ int main(void)
          {{259999984, 2}, {260000000, 1}, {259999999, 1}, {259999997, 3},
           {259999990, 1}}},
         {"Sunday", 0, UINT32_MAX, 349999995,
-         {{349999984, 2}, {349999990, 1}, {350000000, 1}, {349999992, 3},
+         {{349999984, 2}, {349999990, 1}, {2497483643, 1}, {349999992, 3},
           {349999990, 1}}},
     };
     for (size_t i = 0; i < sizeof nights / sizeof nights[0]; i++) {

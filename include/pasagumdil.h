@@ -17,11 +17,11 @@
  * must stay unchanged by others, another thread for example, during a call.
  *
  * Proved, on all inputs, as far as the caller keeps to these rules: the result
- * of each function, every byte of each lent list after the call, and that the
- * call ends. Tested, not proved: the stack that a call takes; that a null
- * pointer may stand for a list of length 0; that a call allocates no memory,
- * shares nothing and keeps nothing, so that any number of threads may call at
- * the same time. */
+ * of each function and every byte of each lent list after the call, as they are
+ * described below, and that the call ends. Tested, not proved: the stack that a
+ * call takes; that a null pointer may stand for a list of length 0; that a call
+ * allocates no memory, shares nothing and keeps nothing, so that any number of
+ * threads may call at the same time. */
 #ifndef PASAGUMDIL_H
 #define PASAGUMDIL_H
 

@@ -10,10 +10,11 @@
 #   Wednesday  the present tick is 0. Job 2 was issued at 2^32 - 1, 1 tick ago, job 3 at 2^32 - 5, 5 ticks ago: 2x2 + 0 = 4, 2x1 + 0 = 2, 2x1 + 1 = 3,
 #              2x2 + 5 = 9, 2. Job 0 costs 4, less than 5 (case H). Whoever takes an age as 0 where the present tick is the smaller number has 4 for job 3
 #              and aborts it; whoever subtracts in 64 bits has costs above 2^42, and the call is refused.
-#   Thursday   the costs of Monday, but job 4 has timed out: nobody holds pool 3, so it waits for nobody and is on no ring.
+#   Thursday   job 4 has timed out: nobody holds pool 3, so it waits for nobody and is on no ring, whatever the others cost. Job 0 was issued at
+#              2237483649 = 90000000 - (2^31 - 1) + 2^32: its age is 2^31 - 1, which is taken.
 #   Friday     the costs of Monday and an allowance of 1 round. The round goes through jobs 1 and 3 and pushes 2; the way through jobs 2 and 3 is left (case K).
 #   Saturday   there is no job 300: refusal 6.
-#   Sunday     job 2 was issued 5 ticks after the present tick. Its age is 2^32 - 5 in 32 bits, 2^31 or more: the clock went back. Jobs 0 and 1 have ages
+#   Sunday     job 2 was issued at 2497483643 = 349999995 + 2^31, so its age in 32 bits is 2^32 - 2^31 = 2^31: the clock went back. Jobs 0 and 1 have ages
 #              11 and 5, so job 2 is the first of which that is so.
 #
 # The cases are those of document 01, the agreed scope.

@@ -30,7 +30,7 @@ nm -u "$library" | awk '$1 == "U" { print $2 }' | sort -u > "$folder/needed"
 [ -s "$folder/said" ] || fail "it does not say what the library needs from the C library"
 diff "$folder/said" "$folder/needed" || fail "< is what it says that the library needs from the C library, > what nm finds"
 
-# Calls share nothing and keep nothing: the archive has no symbol in data that can be written, and no such data.
+# A call allocates nothing, shares nothing and keeps nothing: the library calls nothing else than that, and has no data that can be written.
 nm "$library" | awk 'NF == 3 && $2 ~ /[BbCDdGgSs]/' > "$folder/writable"
 [ ! -s "$folder/writable" ] || fail "the library has data that can be written: $(cat "$folder/writable")"
 size -t "$library" | awk 'END { exit !($2 == 0 && $3 == 0) }' || fail "the library has data that can be written"
