@@ -69,6 +69,7 @@ fn layer(queue: &[u8; 128], e: usize, levels: &mut [u64; 128])
 }
 
 // A further path from T's out-node to its in-node down the levels, lowest nodes first: its length, or 0 where none is found. Nodes that lead nowhere leave their level.
+// Promised is one direction alone: a length is that of the path of a round. After a 0 a search decides whether a path is left.
 fn descend(
     steps: &[u64; 128],
     t: usize,

@@ -46,7 +46,7 @@ pub fn write_zeros(count: usize, bytes: &mut [u8])
     clear(bytes, 0, 8 * count);
 }
 
-// Whether the 16 numbers from a place on are 0.
+// Whether the 16 numbers from a place on are 0. Promised is one direction alone: where it says true they are. A false of zeros would cost time, not right bytes.
 fn blank(list: &[u64], at: usize) -> bool
     requires { ⌜ at + 16 ≤ length (now list) ⌝ }
     ensures { λ r. ⌜ (r ≡ true → Zeros (now (list .entry)) at 16) ⌝ }
