@@ -1,15 +1,17 @@
 -- THE THREE DEMANDS, each as a theorem over every text and every call. specs/Demands.antt says what they mean.
 -- Assumes nothing.
 --
---   demand-1-text, demand-1-reader, demand-1-call, demand-1-entry    every text and every call has exactly one answer
---   demand-2-call, demand-2-ages                                     what is answered is right
---   demand-3                                                         there is one number of rounds, and what an allowance gives
---   demands-text                                                     demands 2 and 3 of the line of a text
---   starred                                                          what document 01 marks by a star
+--   demand-1-text, demand-1-reply, demand-1-reader, demand-1-call, demand-1-entry
+--                                    every text and every call has exactly one answer
+--   demand-2-call, demand-2-ages     what is answered is right
+--   demand-3                         there is one number of rounds, and what an allowance gives
+--   demands-text                     demands 2 and 3 of the line of a text
+--   starred                          what document 01 marks by a star
 use mathlib.Core.Path.{_≡_, refl, sym, ap, _∙_}
 use mathlib.Core.List.{List, _++_}
-use Prim.Native.Nat.{ℕ, _*_}
+use Prim.Native.Nat.{ℕ, _*_, _<_}
 use native.Mathlib.Omega.{arith}
+use native.Mathlib.Decide.{decLt}
 use lib.ListN.{length, drop}
 use Rattle.graph.specs.Waits.{waits}
 use Rattle.network.specs.Costs.{costAt}
@@ -31,9 +33,11 @@ use Rattle.frames.specs.Fields.{headerAt}
 use Rattle.refusals.specs.Refused.{refusalOf, Unrefused}
 use Rattle.reader.proofs.ReadLaws.{read-unique}
 use Rattle.lines.specs.Lines.{answerLine, refusalLine}
-use Rattle.reply.specs.Replied.{LineOf}
+use Rattle.reply.specs.Replied.{LineOf, Replied}
 use Rattle.reply.specs.Replied.LineOf.{refuses as lineRefuses, answers as lineAnswers}
+use Rattle.reply.specs.Replied.Replied.{short, written}
 use Rattle.reply.proofs.GivenLaws.{given-faultless}
+use Rattle.reply.proofs.LineLaws.{reply-unique}
 use Rattle.reply.proofs.TotalLaws.{line-one}
 use Rattle.codec.specs.Frame.{answerBytes}
 use Rattle.lists.specs.Numbers.{allBytes}
@@ -42,7 +46,7 @@ use Rattle.bytewise.specs.Faults.{EntryFaultless}
 use Rattle.bytewise.specs.Entered.{Entered}
 use Rattle.bytewise.specs.Entered.Entered.{refuses as entryRefuses, answers as entryAnswers}
 use Rattle.bytewise.proofs.EnteredLaws.{OnNumbers, entry-unique, entry-exists}
-use Rattle.demands.specs.Demands.{OneLine, OneReading, OneAnswer, OneEntry, Right, TrueAges, Needs, RightLine}
+use Rattle.demands.specs.Demands.{OneLine, OneReply, OneReading, OneAnswer, OneEntry, Right, TrueAges, Needs, RightLine}
 use Rattle.demands.specs.Starred.{Starred}
 use Rattle.demands.proofs.RightLaws.{faultless-right, call-right}
 use Rattle.demands.proofs.NeedLaws.{verdict-gives, needs-exists, needs-unique}
@@ -59,6 +63,16 @@ demand-1-text text =
     taken : (line : List ℕ) → LineOf text line → Unrefused text → (o : ℕ) × (p : ℕ) × (k : ℕ) × (v : ℕ) × (line ≡ answerLine (answered o p k v))
     taken line (lineRefuses r e h) u = absurd (h (ap (λ (x : Frame). x .number) (sym e ∙ u)))
     taken line (lineAnswers u′ rows costs G o p k v y) u = (o, p, k, v, refl)
+
+pub demand-1-reply : (text before : List ℕ) → OneReply text before
+demand-1-reply text before = go (decLt (length before) 45)
+  where
+    go : Dec (length before < 45) → OneReply text before
+    go (yes l) = record { size = 0; after = before; its = short l; only = λ r x c. reply-unique text before r 0 x before c (short l); short = λ m. (refl, refl) }
+    go (no l) =
+        let z = line-one text in
+        let y : Replied text before (length (z .0)) (z .0 ++ drop (length (z .0)) before) = written (omega arith) (z .0) (z .1) in
+        record { size = length (z .0); after = z .0 ++ drop (length (z .0)) before; its = y; only = λ r x c. reply-unique text before r _ x _ c y; short = λ m. absurd (l m) }
 
 pub demand-1-reader : (text rows costs : List ℕ) → OneReading text rows costs
 demand-1-reader text rows costs =

@@ -2,7 +2,8 @@
 -- They stand over what the functions promise: `LineOf` for a text (reply), `IsRead` (reader), `Called` and `Verdict` for a verdict call (verdict),
 -- `Entered` for the C entry (bytewise). Rings are those of graph, sets and rounds those of network. τ is the timed-out job, which the document calls T.
 --
---   OneLine, OneReading, OneAnswer, OneEntry    demand 1: of a text, of the reader, of a verdict call, of a call through the C entry
+--   OneLine, OneReply, OneReading, OneAnswer, OneEntry
+--                                               demand 1: of a text, of the text function, of the reader, of a verdict call, of a verdict call through the C entry
 --   Right w n τ cost o p v                      demand 2: what the outcome o, the price p and the victims v say of a snapshot
 --   TrueAges                                    demand 2: ages across a wrap
 --   Gives K a o k                               what the allowance a gives where K rounds are needed: the outcome o and k rounds
@@ -35,7 +36,7 @@ use Rattle.refusals.specs.Refused.{refusalOf, Unrefused}
 use Rattle.reader.specs.declared.Snapshot.{Snapshot}
 use Rattle.reader.specs.Snapshots.{IsRead}
 use Rattle.lines.specs.Lines.{answerLine, refusalLine}
-use Rattle.reply.specs.Replied.{Given, LineOf}
+use Rattle.reply.specs.Replied.{Given, LineOf, Replied}
 use Rattle.codec.specs.Frame.{answerBytes}
 use Rattle.lists.specs.Numbers.{numbersOf, allBytes}
 use Rattle.framed.specs.Framed.{frameOf}
@@ -52,6 +53,14 @@ pub record OneLine (text : List ℕ) : Type 0 where
   pub only : (other : List ℕ) → LineOf text other → other ≡ line
   pub refused : (refusalOf 64 64 text .number ≡ 0 → ⊥) → line ≡ refusalLine (refusalOf 64 64 text)
   pub taken : Unrefused text → (o : ℕ) × (p : ℕ) × (k : ℕ) × (v : ℕ) × (line ≡ answerLine (answered o p k v))
+
+-- of the text function, for C too, with a list of any length lent: one length and one value of the list, which is as it was where it has fewer than 45 places
+pub record OneReply (text before : List ℕ) : Type 0 where
+  pub size : ℕ
+  pub after : List ℕ
+  pub its : Replied text before size after
+  pub only : (r : ℕ) (x : List ℕ) → Replied text before r x → (r ≡ size) × (x ≡ after)
+  pub short : length before < 45 → (size ≡ 0) × (after ≡ before)
 
 -- of the reader, with lists of any length lent: one result, and both lists as they were where the text is refused
 pub record OneReading (text rows costs : List ℕ) : Type 0 where
