@@ -7,7 +7,7 @@
 # folder. 20,000 calls take about a minute. The last line says how many calls there
 # were and that none differs; otherwise it names the first that does.
 set -eu
-here=$(cd "$(dirname "$0")" && pwd)
+here=$(CDPATH= cd -- "$(dirname -- "$0")" && pwd)
 seed=${1:-1}
 count=${2:-20000}
 second=${3:-$here/../tests/second}

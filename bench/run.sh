@@ -13,7 +13,7 @@
 #
 # All is built for x86-64. On an Arm machine it is run by the kit's emulator.
 set -eu
-here=$(cd "$(dirname "$0")" && pwd)
+here=$(CDPATH= cd -- "$(dirname -- "$0")" && pwd)
 archive=${1:--}
 program=${2:--}
 turns=${TURNS:-20}
@@ -66,25 +66,32 @@ tools=$kit/on/$machine/toolchain
 
 # The kit's clang brings no headers: the compiler's own ones come from cc.
 own_headers=$(cc -print-file-name=include)
-if [ "$machine" != x86_64 ] && [ -d /usr/x86_64-linux-gnu/include ]; then
-    headers="-isystem /usr/x86_64-linux-gnu/include"
-else
-    headers="-isystem /usr/include/$machine-linux-gnu -isystem /usr/include"
-fi
 if [ -n "$kit" ] && [ -x "$tools/bin/clang" ]; then
-    cc_used="$tools/bin/clang --target=x86_64-linux-gnu -nostdinc -isystem $own_headers $headers"
+    compiler=clang
 elif [ "$machine" = x86_64 ]; then
-    cc_used=cc
+    compiler=cc
 else
     die "the kit is needed to build for x86-64 on $machine: set KIT"
 fi
-cc_name=$($cc_used --version | head -n 1)
+
+# compiled WORD ..: the compiler for x86-64, with those words.
+compiled() {
+    if [ $compiler = cc ]; then
+        cc "$@"
+    elif [ "$machine" != x86_64 ] && [ -d /usr/x86_64-linux-gnu/include ]; then
+        "$tools/bin/clang" --target=x86_64-linux-gnu -nostdinc -isystem "$own_headers" -isystem /usr/x86_64-linux-gnu/include "$@"
+    else
+        "$tools/bin/clang" --target=x86_64-linux-gnu -nostdinc -isystem "$own_headers" \
+            -isystem "/usr/include/$machine-linux-gnu" -isystem /usr/include "$@"
+    fi
+}
+cc_name=$(compiled --version | head -n 1)
 
 # compile NAME [FLAG ..]: NAME.c to an object for x86-64.
 compile() {
     name=$1
     shift
-    $cc_used -std=c11 -D_POSIX_C_SOURCE=200809L "$level" -Wall -Wextra "$@" \
+    compiled -std=c11 -D_POSIX_C_SOURCE=200809L "$level" -Wall -Wextra "$@" \
         -c "$here/$name.c" -o "$build/$name.o"
 }
 
@@ -102,6 +109,7 @@ link_with_kit() {
 # Where instructions are emulated or counted, the C library is kept from clearing
 # memory by a string instruction, which would count, and take its time, once a byte.
 plain=GLIBC_TUNABLES=glibc.cpu.x86_rep_stosb_threshold=10000000:glibc.cpu.x86_rep_movsb_threshold=10000000
+# Both stand unquoted, as words; only paths of the kit stand in them.
 if [ "$machine" = x86_64 ]; then
     emulator='' loader=''
 else
@@ -142,23 +150,22 @@ else
 fi
 set -- "$build/bench.o" "$build/contenders.o" "$build/reference.o" \
     "$build/workloads.o" "$build/hardest.o" "$proved"
+bench_loader=
 if [ "$libraries" = yes ]; then
     "$cxx" -static -o "$build/bench" "$@" "$build/libraries.o"
-    bench=$build/bench
 elif [ "$machine" = x86_64 ]; then
     cc -static -o "$build/bench" "$@"
-    bench=$build/bench
 else
     link_with_kit "$build/bench" "$@"
-    bench="$loader $build/bench"
+    bench_loader=$loader
 fi
 
 say "comparing results"
-$emulator $bench equal > "$data" || die "$(tail -n 1 "$data")"
+$emulator $bench_loader "$build/bench" equal > "$data" || die "$(tail -n 1 "$data")"
 say "timing"
-$emulator $bench time "$turns" >> "$data"
+$emulator $bench_loader "$build/bench" time "$turns" >> "$data"
 say "looking at the stack"
-$emulator $bench stack >> "$data"
+$emulator $bench_loader "$build/bench" stack >> "$data"
 
 # ---- Instructions ----
 
@@ -178,11 +185,11 @@ instructions() {
     case $counter in
     qemu)
         qemu-x86_64 -E $plain -plugin "file=$build/icount.so" \
-            $bench once "$1" "$2" "$3" 2>&1 >/dev/null | sed -n 's/^instructions //p'
+            $bench_loader "$build/bench" once "$1" "$2" "$3" 2>&1 >/dev/null | sed -n 's/^instructions //p'
         ;;
     valgrind)
         env $plain valgrind --tool=callgrind --callgrind-out-file=/dev/null \
-            $bench once "$1" "$2" "$3" 2>&1 >/dev/null | sed -n 's/.*Collected : //p'
+            $bench_loader "$build/bench" once "$1" "$2" "$3" 2>&1 >/dev/null | sed -n 's/.*Collected : //p'
         ;;
     esac
 }

@@ -3,9 +3,10 @@
 #
 #   sh tests/calls.sh [COUNT [SEED]]     20000 calls with seed 1 unless given
 set -eu
-cd "$(dirname "$0")/.."
+CDPATH= cd -- "$(dirname -- "$0")/.."
 folder=$(mktemp -d)
 trap 'rm -rf "$folder"' EXIT
+trap 'exit 1' HUP INT TERM
 second=tests/second
 sh tests/link.sh "$folder/calls" tests/calls.c $second/second.c $second/rounds.c $second/victims.c $second/reader.c $second/dice.c $second/generate_calls.c $second/damage_calls.c
 "$folder/calls" "$@"

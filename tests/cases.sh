@@ -7,9 +7,10 @@
 #   sh tests/cases.sh           compares
 #   sh tests/cases.sh --write   writes the three files stdout anew
 set -eu
-cd "$(dirname "$0")/.."
+CDPATH= cd -- "$(dirname -- "$0")/.."
 folder=$(mktemp -d)
 trap 'rm -rf "$folder"' EXIT
+trap 'exit 1' HUP INT TERM
 "${CC:-cc}" -std=c11 -O2 -o "$folder/second" tests/second/*.c
 write=${1:-}
 differ=

@@ -19,9 +19,10 @@
 #
 # The cases are those of document 01, the agreed scope.
 set -eu
-cd "$(dirname "$0")/.."
+CDPATH= cd -- "$(dirname -- "$0")/.."
 folder=$(mktemp -d)
 trap 'rm -rf "$folder"' EXIT
+trap 'exit 1' HUP INT TERM
 sh tests/link.sh "$folder/coordinator" examples/coordinator.c
 "$folder/coordinator" > "$folder/said"
 if ! diff tests/coordinator.expected "$folder/said"; then

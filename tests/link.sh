@@ -9,34 +9,36 @@
 set -eu
 program=$1
 shift
-top=$(cd "$(dirname "$0")/.." && pwd)
-library=$top/target/staticlib/libentry.a
-if [ ! -f "$library" ] || [ -n "$(find "$top"/crates/*/src "$top"/crates/*/specs "$top"/crates/*/proofs -newer "$library" -print | head -n 1)" ]; then
-    (cd "$top" && rt staticlib entry) >&2
-fi
-flags="-std=c11 -O2 -Wall -Wextra -Werror -I$top/include -I$top/tests/second"
+top=$(CDPATH= cd -- "$(dirname -- "$0")/.." && pwd)
+sh "$top/pasagumdil" library >/dev/null
+library=$top/build/libentry.a
+
+# compile COMPILER WORD ..: with the flags that all files get.
+compile() {
+    "$@" -std=c11 -O2 -Wall -Wextra -Werror "-I$top/include" "-I$top/tests/second"
+}
 
 if [ "$(uname -m)" = x86_64 ] && [ "${KIT_LINK:-0}" = 0 ]; then
-    exec "${CC:-cc}" $flags -o "$program" "$@" "$library"
+    compile "${CC:-cc}" -o "$program" "$@" "$library"
+    exit
 fi
 
 tools=$(dirname "$(dirname "$(rt doc)")")/on/$(uname -m)/toolchain
-headers="-nostdinc -isystem $("${CC:-cc}" -print-file-name=include) -isystem /usr/include/$("${CC:-cc}" -print-multiarch) -isystem /usr/include"
-parts=
+lib=$tools/lib
+cc=${CC:-cc}
 count=0
 for file in "$@"; do
+    shift
     count=$((count + 1))
-    "$tools/bin/clang" --target=x86_64-linux-gnu $flags $headers -c "$file" -o "$program.$count.o"
-    parts="$parts $program.$count.o"
+    object=$program.$count.o
+    compile "$tools/bin/clang" --target=x86_64-linux-gnu -nostdinc -isystem "$("$cc" -print-file-name=include)" \
+        -isystem "/usr/include/$("$cc" -print-multiarch)" -isystem /usr/include -c "$file" -o "$object"
+    set -- "$@" "$object"
 done
-"$tools/bin/ld.lld" -pie -dynamic-linker /lib64/ld-linux-x86-64.so.2 -o "$program.x86-64" "$tools/lib/Scrt1.o" "$tools/lib/crti.o" "$tools/lib/crtbeginS.o" \
-    $parts "$library" "$tools/lib/libc.so.6" "$tools/lib/libc_nonshared.a" "$tools/lib/libgcc.a" "$tools/lib/crtendS.o" "$tools/lib/crtn.o"
-emulator=
-if [ -x "$tools/bin/qemu-x86_64" ]; then
-    emulator=$tools/bin/qemu-x86_64
-fi
-cat > "$program" <<END
+"$tools/bin/ld.lld" -pie -dynamic-linker /lib64/ld-linux-x86-64.so.2 -o "$program.x86-64" "$lib/Scrt1.o" "$lib/crti.o" "$lib/crtbeginS.o" \
+    "$@" "$library" "$lib/libc.so.6" "$lib/libc_nonshared.a" "$lib/libgcc.a" "$lib/crtendS.o" "$lib/crtn.o"
+cat > "$program" <<TEXT
 #!/bin/sh
-exec $emulator "$tools/lib/ld-linux-x86-64.so.2" --library-path "$tools/lib" "$program.x86-64" "\$@"
-END
+exec sh "$top/program/run.sh" "$program.x86-64" "\$@"
+TEXT
 chmod +x "$program"

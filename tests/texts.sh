@@ -4,22 +4,20 @@
 #
 #   sh tests/texts.sh [PROGRAM_TEXTS [ENTRY_TEXTS [SEED]]]
 set -eu
-cd "$(dirname "$0")/.."
+CDPATH= cd -- "$(dirname -- "$0")/.."
 count=${1:-500}
 seed=${3:-1}
 folder=$(mktemp -d)
 trap 'rm -rf "$folder"' EXIT
+trap 'exit 1' HUP INT TERM
 second=tests/second
 "${CC:-cc}" -std=c11 -O2 -o "$folder/second" $second/*.c
 mkdir "$folder/texts"
 "$folder/second" gen-texts "$seed" "$count" "$folder/texts"
 
-tools=$(dirname "$(dirname "$(rt doc)")")/on/$(uname -m)/toolchain
-emulator=$tools/bin/qemu-x86_64
-[ -x "$emulator" ] || emulator=
 done=0
 for text in "$folder"/texts/* examples/*.txt; do
-    ${emulator:+"$emulator"} "$tools/lib/ld-linux-x86-64.so.2" --library-path "$tools/lib" target/bin/answer < "$text" > "$folder/found"
+    sh program/run.sh build/answer < "$text" > "$folder/found"
     "$folder/second" answer < "$text" > "$folder/expected"
     if ! cmp -s "$folder/expected" "$folder/found" || [ "$(wc -l < "$folder/found")" -ne 1 ]; then
         printf 'texts: they differ, seed %s:\n' "$seed"

@@ -6,11 +6,12 @@
 #
 #   sh check.sh [SEED [COUNT]]
 set -eu
-here=$(cd "$(dirname "$0")" && pwd)
+here=$(CDPATH= cd -- "$(dirname -- "$0")" && pwd)
 seed=${1:-1}
 count=${2:-1000}
 folder=$(mktemp -d)
 trap 'rm -rf "$folder"' EXIT
+trap 'exit 1' HUP INT TERM
 second=$folder/second
 faults=0
 
