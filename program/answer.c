@@ -16,12 +16,8 @@
 #include <sys/stat.h>
 #include <unistd.h>
 
-#ifndef PASAGUMDIL_VERSION
-#define PASAGUMDIL_VERSION "1.0.0"
-#endif
-
-/* A text of 4,097 bytes is too long, whatever follows. */
-enum { MOST_BYTES = 4097 };
+/* A text of one byte more than is read is too long, whatever follows. */
+enum { MOST_BYTES = PASAGUMDIL_TEXT_BYTES + 1 };
 
 static const char usage[] =
     "pasagumdil-answer [FILE]     reads a snapshot from FILE, or from standard input where no FILE or - is named,\n"

@@ -3,9 +3,10 @@
 # from the C library, that it has no data that can be written, the version, the refusal numbers, and null pointers for empty lists.
 # And the snapshots of docs/FORMAT.md, worked out by hand there, through the text function.
 set -eu
-cd "$(dirname "$0")/.."
+CDPATH= cd -- "$(dirname -- "$0")/.."
 folder=$(mktemp -d)
 trap 'rm -rf "$folder"' EXIT
+trap 'exit 1' HUP INT TERM
 header=include/pasagumdil.h
 
 fail() {
@@ -23,7 +24,7 @@ status=0
 [ "$status" -eq 0 ] || fail "sentence $status of tests/header.c does not hold"
 
 # "It needs memset() and memcpy() from the C library, and nothing else."
-library=target/staticlib/libentry.a
+library=build/libentry.a
 sed 's/^ \* *//' "$header" | tr '\n' ' ' | sed -n 's/.*It needs \([^.]*\) from the C library, and nothing else\..*/\1/p' |
     grep -o '[a-z_0-9]*()' | tr -d '()' | sort > "$folder/said"
 nm -u "$library" | awk '$1 == "U" { print $2 }' | sort -u > "$folder/needed"

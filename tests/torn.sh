@@ -3,8 +3,9 @@
 #
 #   sh tests/torn.sh [CALLS]     2000000 unless given
 set -eu
-cd "$(dirname "$0")/.."
+CDPATH= cd -- "$(dirname -- "$0")/.."
 folder=$(mktemp -d)
 trap 'rm -rf "$folder"' EXIT
+trap 'exit 1' HUP INT TERM
 sh tests/link.sh "$folder/torn" tests/torn.c
 "$folder/torn" "$@"
