@@ -13,7 +13,6 @@
 #include <signal.h>
 #include <stdio.h>
 #include <string.h>
-#include <sys/stat.h>
 #include <unistd.h>
 
 /* A text of one byte more than is read is too long, whatever follows. */
@@ -68,13 +67,12 @@ static int write_all(const void *bytes, size_t length)
     return 0;
 }
 
-/* Opens a file, or standard input by the name -; -1 where it cannot be read. */
+/* Opens a file, or standard input by the name -; -1 where it cannot be read,
+ * as a folder cannot. */
 static int open_text(const char *file)
 {
-    struct stat about;
     int input = strcmp(file, "-") == 0 ? STDIN_FILENO : open(file, O_RDONLY);
-    if (input > STDIN_FILENO && fstat(input, &about) == 0 && S_ISDIR(about.st_mode)) {
-        errno = EISDIR;
+    if (input > STDIN_FILENO && read(input, &input, 0) < 0) {
         return -1;
     }
     if (input == STDIN_FILENO && isatty(input)) {

@@ -7,7 +7,7 @@ CDPATH= cd -- "$(dirname -- "$0")/.."
 if [ "$(uname -m)" != x86_64 ]; then
     said=$(./pasagumdil install /nowhere 2>&1) && status=0 || status=$?
     case $status:$said in
-    *"for x86-64, so it cannot be installed"*) echo "install: it is refused here, as it must be" ;;
+    1:*"for x86-64, so it cannot be installed"*) echo "install: it is refused here, as it must be" ;;
     *) echo "install: it should be refused here with a sentence, and said: $said" && exit 1 ;;
     esac
     exit
@@ -89,6 +89,7 @@ same "the program on no text" 0F0B0001 "$("$program" </dev/null)"
 same "its status after a refusal" 0 "$(status_of "$program" /dev/null)"
 same "its version" "pasagumdil-answer $(cat VERSION)" "$("$program" --version)"
 same "its status without such a file" 1 "$(status_of "$program" "$folder/none")"
+same "its status on a folder" 1 "$(status_of "$program" "$folder")"
 same "its status with two files" 1 "$(status_of "$program" examples/document.txt examples/document.txt)"
 said=$("$program" examples/document.txt 2>&1 >/dev/full) && status=0 || status=$?
 same "standard output full" "1 pasagumdil: the line could not be written: No space left on device" "$status $said"
