@@ -98,7 +98,14 @@ same "standard output closed" "1 pasagumdil: the line could not be written: Bad 
 { sleep 1; status=0; "$program" examples/document.txt || status=$?; echo "$status" >"$folder/status"; } 2>"$folder/said" | true
 same "a closed pipe" "1 pasagumdil: the line could not be written: Broken pipe" "$(cat "$folder/status" "$folder/said" | tr '\n' ' ' | sed 's/ $//')"
 
-# The man pages.
+# The man pages: each refusal of a call by the header's name for it, each of a text by its number.
+for number in 1 2 3 4 5 6 7 8; do
+    name=$(sed -n "/^enum pasagumdil_refusal/,/^};/s/^ *\(PASAGUMDIL_[A-Z_]*\) = $number,*\$/\1/p" include/pasagumdil.h)
+    same "refusal $number in pasagumdil.3" "$number $name" "$(awk -v name="$name:" 'last == ".B" && $1 == name { print number, $1 } { last = $1; number = $2 }' man/pasagumdil.3 | tr -d :)"
+done
+for number in 9 10 11 12 13 14 15 16 17 18; do
+    same "refusal $number in pasagumdil-answer.1" 1 "$(grep -cx "\.B $number ($(printf %02X "$number"))" man/pasagumdil-answer.1)"
+done
 for page in pasagumdil-answer.1 pasagumdil.3; do
     grep -q "^\.TH .* \"pasagumdil $(cat VERSION)\"" "man/$page" || same "the version of $page" "$(cat VERSION)" "$(sed 1q "man/$page")"
     if command -v groff >/dev/null 2>&1; then same "what groff says of $page" "" "$(groff -man -Tascii -ww -z "man/$page" 2>&1)"; fi
