@@ -74,8 +74,9 @@ answering=$kitless
 
 ln -s "$front" "$folder/link"
 ln -s ../link "$folder/a b/link to link"
-export CDPATH="$folder:.:/"
+export CDPATH="$folder:$folder/a b:/"
 same "through links, from another folder" "0 $line quiet" "$(cd "$folder/a b" && PATH=$answering result "./link to link" answer tree/examples/document.txt)"
+same "by a name that CDPATH leads to" "0 $line quiet" "$(cd "$folder/a b" && PATH=$answering result tree/pasagumdil answer tree/examples/document.txt)"
 same "by its name in its own folder" "0 $line quiet" "$(cd "$tree" && PATH=$answering result sh pasagumdil answer examples/document.txt)"
 same "the coordinator, built where a path has a space" "0 coordinator: all well quiet" "$(cd "$folder" && TMPDIR="$folder/a b" result sh "a b/tree/tests/coordinator.sh")"
 unset CDPATH
