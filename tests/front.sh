@@ -25,20 +25,20 @@ says() {
     grep -q -- "$3" "$2" || same "$1" "a line with $3" "$(cat "$2")"
 }
 
-# result COMMAND ..: its status, what it writes and a word on whether it says something, in 60 seconds.
+# result COMMAND ..: its status, what it writes and a word on whether it says something, in 300 seconds.
 result() {
     status=0
-    timeout 60 "$@" >"$folder/out" 2>"$folder/err" || status=$?
+    timeout 300 "$@" >"$folder/out" 2>"$folder/err" || status=$?
     if [ -s "$folder/err" ]; then word=word; else word=quiet; fi
     echo $status $(cat "$folder/out") $word
 }
 
-# until_true COMMAND ..: waits for it, for 60 seconds at most.
+# until_true COMMAND ..: waits for it, for 300 seconds at most.
 until_true() {
     tries=0
     until "$@"; do
         tries=$((tries + 1))
-        [ "$tries" -lt 600 ] || same "waiting for: $*" "it comes" "it does not"
+        [ "$tries" -lt 3000 ] || same "waiting for: $*" "it comes" "it does not"
         sleep 0.1
     done
 }
@@ -137,14 +137,15 @@ same "the other test, which has ended with it" "$counted" "$(cat "$folder/alive"
 # ---- Runs at once ----
 
 # Only the last crate is to be proved again. One run proves it, and says so as it goes; the other waits, and has nothing left to do.
+[ -d target/rlib ] || same "the proved crates in target/" "there, as './pasagumdil test' leaves them" "none"
 mkdir -p "$tree/target"
 cp -R target/rlib target/stamp "$tree/target/"
 echo '// proved again' >> "$tree/crates/answer/src/main.rt"
 count=$(sed -n 's/^answer: //p' crates.txt | tr ' ' '\n' | grep -vcx 'io\|libc')
 count=$((count + 1))
-timeout 60 "$front" answer "$text" >"$folder/out1" 2>"$folder/err1" &
+timeout 300 "$front" answer "$text" >"$folder/out1" 2>"$folder/err1" &
 one=$!
-timeout 60 "$front" answer "$text" >"$folder/out2" 2>"$folder/err2" &
+timeout 300 "$front" answer "$text" >"$folder/out2" 2>"$folder/err2" &
 two=$!
 started="$one $two"
 until_true grep -q "$((count - 1)) of $count: " "$folder/err1" "$folder/err2"
@@ -181,7 +182,7 @@ waiting() {
     same "a fresh program while another run builds" "0 $line quiet" "$(result "$front" answer "$text")"
     mv "$tree/target.away" "$tree/target"
     touch "$tree/crates/answer/src/main.rt"
-    timeout 60 "$front" answer "$text" >"$folder/out1" 2>"$folder/err1" &
+    timeout 300 "$front" answer "$text" >"$folder/out1" 2>"$folder/err1" &
     one=$!
     until_true grep -q 'another run is building; waiting' "$folder/err1"
     sleep 1
