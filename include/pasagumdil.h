@@ -6,7 +6,7 @@
  * pasagumdil_answer() does the same for a snapshot as text.
  *
  * Linking. `./pasagumdil library` proves and builds the static library,
- * target/staticlib/libentry.a. `./pasagumdil install PREFIX` installs it as
+ * build/libentry.a. `./pasagumdil install PREFIX` installs it as
  * libpasagumdil: link with -lpasagumdil, or by `pkg-config --cflags --libs
  * pasagumdil`. It is for x86-64 Linux. It needs memset() and memcpy() from the
  * C library, and nothing else.

@@ -9,7 +9,7 @@
 # Answers are as the programs write them. verdicts: outcome, price, rounds, victims (job k as 2^k), all hexadecimal, and a digest of the work list.
 # rounds: rounds, whether a path is left, and each flow above 0. answer: a frame.
 set -eu
-cd "$(dirname "$0")/.."
+CDPATH= cd -- "$(dirname -- "$0")/.."
 folder=$(mktemp -d)
 trap 'rm -rf "$folder"' EXIT
 trap 'exit 130' INT TERM

@@ -8,6 +8,7 @@
 --   demands-text                     demands 2 and 3 of the line of a text
 --   starred                          what document 01 marks by a star
 use mathlib.Core.Path.{_≡_, refl, sym, ap, _∙_}
+use mathlib.Core.Logic.{_⊎_, inl, inr}
 use mathlib.Core.List.{List, _++_}
 use Prim.Native.Nat.{ℕ, _*_, _<_}
 use native.Mathlib.Omega.{arith}
@@ -15,8 +16,8 @@ use native.Mathlib.Decide.{decLt}
 use lib.ListN.{length, drop}
 use Rattle.graph.specs.Waits.{waits}
 use Rattle.network.specs.Costs.{costAt}
-use Rattle.checks.specs.Refusals.{Faultless}
-use Rattle.checks.proofs.RefusalLaws.{refusal-faultless, faultless-job}
+use Rattle.checks.specs.Refusals.{Refusal, Faultless}
+use Rattle.checks.proofs.RefusalLaws.{faultless-job}
 use Rattle.verdict.specs.declared.Decision.{Decision}
 use Rattle.verdict.specs.declared.Answer.{Answer}
 use Rattle.verdict.specs.declared.Answer.the-variants.{Refused, Decided}
@@ -42,7 +43,7 @@ use Rattle.reply.proofs.TotalLaws.{line-one}
 use Rattle.codec.specs.Frame.{answerBytes}
 use Rattle.lists.specs.Numbers.{allBytes}
 use Rattle.framed.specs.Framed.{frameOf}
-use Rattle.bytewise.specs.Faults.{EntryFaultless}
+use Rattle.bytewise.specs.Faults.{EntryRefusal, EntryFaultless}
 use Rattle.bytewise.specs.Entered.{Entered}
 use Rattle.bytewise.specs.Entered.Entered.{refuses as entryRefuses, answers as entryAnswers}
 use Rattle.bytewise.proofs.EnteredLaws.{OnNumbers, entry-unique, entry-exists}
@@ -60,8 +61,8 @@ demand-1-text text =
     let z = line-one text in
     record { line = z .0; its = z .1; only = z .2; refused = λ h. sym (z .2 (refusalLine (refusalOf 64 64 text)) (lineRefuses (refusalOf 64 64 text) refl h)); taken = taken (z .0) (z .1) }
   where
-    taken : (line : List ℕ) → LineOf text line → Unrefused text → (o : ℕ) × (p : ℕ) × (k : ℕ) × (v : ℕ) × (line ≡ answerLine (answered o p k v))
-    taken line (lineRefuses r e h) u = absurd (h (ap (λ (x : Frame). x .number) (sym e ∙ u)))
+    taken : (line : List ℕ) → LineOf text line → refusalOf 64 64 text .number ≡ 0 → (o : ℕ) × (p : ℕ) × (k : ℕ) × (v : ℕ) × (line ≡ answerLine (answered o p k v))
+    taken line (lineRefuses r e h) u = absurd (h (ap (λ (x : Frame). x .number) (sym e) ∙ u))
     taken line (lineAnswers u′ rows costs G o p k v y) u = (o, p, k, v, refl)
 
 pub demand-1-reply : (text before : List ℕ) → OneReply text before
@@ -95,12 +96,13 @@ demand-1-call rows costs τ allowance before =
       its = z .2;
       only = λ x y c. call-unique rows costs τ allowance before x (z .0) y (z .1) c (z .2);
       refused = λ k r. call-unique rows costs τ allowance before (z .0) (Refused k) (z .1) before (z .2) (refuses k r);
-      taken = taken (z .0) (z .1) (z .2);
+      ends = ends (z .0) (z .1) (z .2);
     }
   where
-    taken : (x : Answer) (y : List ℕ) → Called rows costs τ allowance before x y → Faultless rows costs τ (length before) → (d : Decision) × (x ≡ Decided d)
-    taken x y (refuses k r) f = absurd (refusal-faultless rows costs τ (length before) k r f)
-    taken x y (answers d y′ g v F) f = (d, refl)
+    ends : (x : Answer) (y : List ℕ) → Called rows costs τ allowance before x y
+        → ((k : ℕ) × Refusal rows costs τ (length before) k × (x ≡ Refused k) × (y ≡ before)) ⊎ ((d : Decision) × Faultless rows costs τ (length before) × (x ≡ Decided d))
+    ends x y (refuses k r) = inl (k, r, refl, refl)
+    ends x y (answers d y′ f v F) = inr (d, f, refl)
 
 pub demand-1-entry : (rows costs : List ℕ) (τ allowance : ℕ) (work answer : List ℕ) → OneEntry rows costs τ allowance work answer
 demand-1-entry rows costs τ allowance work answer =
@@ -112,14 +114,15 @@ demand-1-entry rows costs τ allowance work answer =
       its = z .3;
       only = λ k x y c. entry-unique rows costs τ allowance work answer k (z .0) x (z .1) y (z .2) c (z .3);
       refused = λ k r. entry-unique rows costs τ allowance work answer (z .0) k (z .1) work (z .2) answer (z .3) (entryRefuses k r);
-      taken = taken (z .0) (z .1) (z .2) (z .3);
+      ends = ends (z .0) (z .1) (z .2) (z .3);
     }
   where
-    taken : (k : ℕ) (x y : List ℕ) → Entered rows costs τ allowance work answer k x y → EntryFaultless rows costs τ (length work) (length answer)
-        → (k ≡ 0) × (d : Decision) × (flows : List ℕ) × OnNumbers rows costs τ allowance (Decided d) flows
-        × (x ≡ allBytes flows ++ drop (8 * length flows) work) × (y ≡ answerBytes (frameOf d) ++ drop 22 answer)
-    taken k x y (entryRefuses j r) f = absurd (f j (r .fault))
-    taken k x y (entryAnswers d flows g c) f = (refl, d, flows, c, refl, refl)
+    ends : (k : ℕ) (x y : List ℕ) → Entered rows costs τ allowance work answer k x y
+        → ((j : ℕ) × EntryRefusal rows costs τ (length work) (length answer) j × (k ≡ j) × (x ≡ work) × (y ≡ answer))
+        ⊎ ((d : Decision) × (flows : List ℕ) × EntryFaultless rows costs τ (length work) (length answer) × OnNumbers rows costs τ allowance (Decided d) flows
+        × (k ≡ 0) × (x ≡ allBytes flows ++ drop (8 * length flows) work) × (y ≡ answerBytes (frameOf d) ++ drop 22 answer))
+    ends k x y (entryRefuses j r) = inl (j, r, refl, refl, refl)
+    ends k x y (entryAnswers d flows f c) = inr (d, flows, f, c, refl, refl, refl)
 
 -- ---- Demand 2. "Wait exactly when no ring passes through T; else the named jobs open every such ring, none cheaper, ties as document 01 says.
 -- Ages below 2^31 are right across a wrap."

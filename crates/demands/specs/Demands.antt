@@ -52,7 +52,7 @@ pub record OneLine (text : List ℕ) : Type 0 where
   pub its : LineOf text line
   pub only : (other : List ℕ) → LineOf text other → other ≡ line
   pub refused : (refusalOf 64 64 text .number ≡ 0 → ⊥) → line ≡ refusalLine (refusalOf 64 64 text)
-  pub taken : Unrefused text → (o : ℕ) × (p : ℕ) × (k : ℕ) × (v : ℕ) × (line ≡ answerLine (answered o p k v))
+  pub taken : refusalOf 64 64 text .number ≡ 0 → (o : ℕ) × (p : ℕ) × (k : ℕ) × (v : ℕ) × (line ≡ answerLine (answered o p k v))
 
 -- of the text function, for C too, with a list of any length lent: one length and one value of the list, which is as it was where it has fewer than 45 places
 pub record OneReply (text before : List ℕ) : Type 0 where
@@ -78,7 +78,8 @@ pub record OneAnswer (rows costs : List ℕ) (τ allowance : ℕ) (before : List
   pub its : Called rows costs τ allowance before answer after
   pub only : (x : Answer) (y : List ℕ) → Called rows costs τ allowance before x y → (x ≡ answer) × (y ≡ after)
   pub refused : (k : ℕ) → Refusal rows costs τ (length before) k → (answer ≡ Refused k) × (after ≡ before)
-  pub taken : Faultless rows costs τ (length before) → (d : Decision) × (answer ≡ Decided d)
+  pub ends : ((k : ℕ) × Refusal rows costs τ (length before) k × (answer ≡ Refused k) × (after ≡ before))
+      ⊎ ((d : Decision) × Faultless rows costs τ (length before) × (answer ≡ Decided d))
 
 -- of a call through the C entry: one number and one value of each lent list; the number of the refusal that is due, with both lists as they were,
 -- or 0 with the bytes of a verdict call on the numbers
@@ -89,9 +90,10 @@ pub record OneEntry (rows costs : List ℕ) (τ allowance : ℕ) (work answer : 
   pub its : Entered rows costs τ allowance work answer number work′ answer′
   pub only : (k : ℕ) (x y : List ℕ) → Entered rows costs τ allowance work answer k x y → (k ≡ number) × (x ≡ work′) × (y ≡ answer′)
   pub refused : (k : ℕ) → EntryRefusal rows costs τ (length work) (length answer) k → (number ≡ k) × (work′ ≡ work) × (answer′ ≡ answer)
-  pub taken : EntryFaultless rows costs τ (length work) (length answer) → (number ≡ 0) × (d : Decision) × (flows : List ℕ)
+  pub ends : ((k : ℕ) × EntryRefusal rows costs τ (length work) (length answer) k × (number ≡ k) × (work′ ≡ work) × (answer′ ≡ answer))
+      ⊎ ((d : Decision) × (flows : List ℕ) × EntryFaultless rows costs τ (length work) (length answer)
       × Called (numbersOf rows) (numbersOf costs) τ allowance (replicate (length (numbersOf rows) * length (numbersOf rows)) 0) (Decided d) flows
-      × (work′ ≡ allBytes flows ++ drop (8 * length flows) work) × (answer′ ≡ answerBytes (frameOf d) ++ drop 22 answer)
+      × (number ≡ 0) × (work′ ≡ allBytes flows ++ drop (8 * length flows) work) × (answer′ ≡ answerBytes (frameOf d) ++ drop 22 answer))
 
 -- ---- Demand 2. "Wait exactly when no ring passes through T; else the named jobs open every such ring, none cheaper, ties as document 01 says.
 -- Ages below 2^31 are right across a wrap."
