@@ -1,6 +1,8 @@
 // The program: one snapshot from standard input, one answer or refusal line to standard output.
 // 4,097 bytes are read at most: a text of 4,097 bytes is too long whatever follows. A failed read counts as the end of the text.
 // Where the line cannot be written, a sentence on standard error says so.
+#![tactic(auto)]
+
 use libc::{STDERR_FILENO, STDIN_FILENO, STDOUT_FILENO};
 
 fn main() {

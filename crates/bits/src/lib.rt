@@ -1,1 +1,3 @@
 // Masks and their digits: the laws that every layer cites. No function.
+#![tactic(auto)]
+

@@ -1,4 +1,6 @@
 // The checks of a verdict call: the first of refusals 1 to 8 that is due.
+#![tactic(auto)]
+
 ghost use Rattle.std.specs.Prelude.{◌≤◌, length};
 ghost use Rattle.checks.specs.Checks.{Looped, Summed};
 ghost use Rattle.checks.specs.Refusals.{Due};

@@ -2,6 +2,8 @@
 //
 // `number_at` reads a number of 8 bytes, `put_number` writes one of so many, `put_answer` writes the 22 bytes of an answer frame.
 // A function that writes leaves every byte that it does not write as it was.
+#![tactic(auto)]
+
 ghost use Rattle.std.specs.Prelude.{◌≡◌, ◌++◌, ◌+◌, ◌<◌, ◌≤◌, length, take, drop};
 ghost use Rattle.codec.specs.Bytes.{number_at, bytes_of};
 ghost use Rattle.codec.specs.Frame.{answer_bytes};

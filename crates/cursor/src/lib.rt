@@ -3,6 +3,8 @@
 // First on text and number side by side (`frame_fault`, `further_fault`), then by the reader, which carries the lent
 // text together with its place in it. `frame_at` and `further_at` go through the reader and take text and number: every
 // line that a caller has read is read by the reader.
+#![tactic(auto)]
+
 ghost use Rattle.std.specs.Prelude.{◌≡◌};
 ghost use Rattle.cursor.specs.Frame.{frame_fault, further_fault};
 

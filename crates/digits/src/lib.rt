@@ -1,6 +1,8 @@
 // Digits of hexadecimal text by their places: what they are worth, the bytes and numbers that they spell, digits written.
 //
 // Every function that reads is total on the text: behind its end stands 0, and a byte that is no digit is worth 0.
+#![tactic(auto)]
+
 ghost use Rattle.std.specs.Prelude.{◌≡◌, ◌+◌, ◌^◌, ◌≤◌, ◌<◌, ◌++◌, get_or, length, take, drop};
 ghost use Rattle.digits.specs.Digits.{is_digit, digit, byte_at, number};
 ghost use Rattle.digits.specs.Spell.{spelt, spell};

@@ -2,6 +2,8 @@
 //
 // `pasagumdil_verdict` returns the number of the refusal that is due, and writes nothing then; otherwise it returns 0, with the answer frame at the front of
 // the answer bytes and the flows at the front of the work bytes. `pasagumdil_answer` is `reply` for C. Neither has a `requires`: every call is answered.
+#![tactic(auto)]
+
 ghost use Rattle.reply.specs.Replied.{Replied};
 ghost use Rattle.bytewise.specs.Entered.{Entered};
 

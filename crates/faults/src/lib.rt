@@ -2,6 +2,8 @@
 //
 // `header_fault` and `job_fault` give the first refusal of one line, in the order of the document: 10, 11, then the fields
 // from left to right, then 17. 0: nothing refuses it.
+#![tactic(auto)]
+
 ghost use Rattle.std.specs.Prelude.{◌≡◌, ◌+◌, ◌*◌, ◌^◌, ◌<◌};
 ghost use Rattle.frames.specs.Kinds.{header_digits, job_digits};
 ghost use Rattle.faults.specs.HeaderFault.{in_range, header_fault};

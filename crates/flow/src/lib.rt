@@ -2,6 +2,8 @@
 // The network is that of the document, over the rows, the costs, T (here t) and the mask x of X; it is never written down.
 // Kept during the rounds: the flow on the waits in the lent work list, the flow through each job, and for each node the mask of its steps with room.
 // A round's path is found by a search, or, behind the first rounds, down the levels of a search that has found one of its length.
+#![tactic(auto)]
+
 ghost use Rattle.std.specs.Prelude.{◌≡◌, true, ◌+◌, ◌*◌, length};
 ghost use Rattle.bits.specs.Mask.{has};
 ghost use Rattle.network.specs.Arcs.{total};

@@ -1,4 +1,6 @@
 // The answer frame of a verdict.
+#![tactic(auto)]
+
 ghost use Rattle.std.specs.Prelude.{◌≡◌};
 ghost use Rattle.framed.specs.Framed.{frame_of};
 

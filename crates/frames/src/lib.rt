@@ -2,6 +2,8 @@
 //
 // Each frame type owns its kind byte and its digit count, and is made by its constructor: a header and a job frame out of
 // the digits at a place of a text, an answer and a refusal out of their fields.
+#![tactic(auto)]
+
 ghost use Rattle.std.specs.Prelude.{◌≡◌, ◌+◌, ◌*◌, ◌^◌, ◌<◌};
 ghost use Rattle.frames.specs.Kinds.{header_digits, job_digits};
 ghost use Rattle.frames.specs.Records.{answered, refused};

@@ -3,6 +3,8 @@
 // `rows_known` says whether the rows name only jobs that are there, `reach` gives exactly the jobs that a job reaches along waits,
 // `gather` exactly those of a set of jobs whose masks name a marked job, `on_rings` exactly the document's X,
 // and `ring_through` whether a ring passes through a job.
+#![tactic(auto)]
+
 ghost use Rattle.std.specs.Prelude.{◌<◌, ◌≤◌, length};
 ghost use Rattle.bits.specs.Mask.{MaskOf};
 ghost use Rattle.walks.specs.Walk.{Reaches};

@@ -5,6 +5,8 @@
 //
 //   reach MASK x MASK ring yes    whom T reaches, X, and whether a ring passes through T: yes or no
 //   refused K                     1 where there is no row, 4 where a row names a job that is not there, 6 where T is no job
+#![tactic(auto)]
+
 ghost use Rattle.std.specs.Prelude.{◌<◌, ◌≤◌, length};
 
 use libc::{STDIN_FILENO, STDOUT_FILENO};

@@ -1,6 +1,8 @@
 // The lines that are written: an answer or a refusal, as digits and a line feed.
 //
 // Each function writes its line at the front of a lent list and leaves the rest of the list as it was.
+#![tactic(auto)]
+
 ghost use Rattle.std.specs.Prelude.{◌≡◌, ◌++◌, ◌+◌, ◌≤◌, length, drop};
 ghost use Rattle.frames.specs.Kinds.{answer_digits, refusal_digits};
 ghost use Rattle.lines.specs.Lines.{answer_line, refusal_line};

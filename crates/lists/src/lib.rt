@@ -2,6 +2,8 @@
 //
 // `read_lists` fills two lists of numbers out of bytes, `write_numbers` writes one out, and `write_zeros` a list of zeros;
 // what is behind the written bytes stays as it was.
+#![tactic(auto)]
+
 ghost use Rattle.std.specs.Prelude.{◌≡◌, true, ◌++◌, ◌+◌, ◌*◌, ◌≤◌, length, take, drop, replicate};
 ghost use Rattle.lists.specs.Numbers.{numbers, all_bytes, Readable};
 ghost use Rattle.lists.specs.Inside.{written, Writable, Zeros};

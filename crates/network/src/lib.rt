@@ -1,1 +1,3 @@
 // The network and its rounds as plain mathematics: paths, rounds, cuts, the bound on rounds and the one best set. No function.
+#![tactic(auto)]
+

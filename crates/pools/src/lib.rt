@@ -1,4 +1,6 @@
 // The graph layer over pool states: `row` gives exactly the jobs that a job waits for in a table of them.
+#![tactic(auto)]
+
 ghost use Rattle.std.specs.Prelude.{◌<◌};
 ghost use Rattle.bits.specs.Mask.{MaskOf};
 ghost use Rattle.pools.specs.Pools.{Table, ActiveAt, WaitsFor};

@@ -1,6 +1,8 @@
 // One round's amount and its push, up the parents that the search has left.
 // The flow on the waits is in the work list, the flow through each job in `thru`, and `steps` has the masks of the steps with room.
 // The public function says what it leaves in terms of these lists; `flow` turns that into rooms and rounds.
+#![tactic(auto)]
+
 ghost use Rattle.std.specs.Prelude.{◌≡◌};
 ghost use Rattle.push.specs.Reading.{reads, Readable};
 ghost use Rattle.push.specs.Advance.{Shiftable, Shifted, Markable, Unmarkable, with_step, without_step, Advanceable, Advanced};

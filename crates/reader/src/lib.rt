@@ -3,6 +3,8 @@
 // `read` takes the text and lends two lists. Where nothing refuses the text it gives n, T and the allowance, and fills
 // the first n places of each list: the row of each job, by the rule of `pools` on the pool states, and its cost.
 // Where something does, it gives the refusal with its line and writes nothing.
+#![tactic(auto)]
+
 ghost use Rattle.std.specs.Prelude.{◌≡◌, ◌++◌, ◌+◌, ◌*◌, ◌^◌, ◌≤◌, ◌<◌, length, take, drop};
 ghost use Rattle.frames.specs.Kinds.{job_digits};
 ghost use Rattle.frames.specs.Fields.{header_at};

@@ -2,6 +2,8 @@
 //
 // `first_refusal` gives the number and the line by the reader's rule: 3, then 9, both with line 0; then line by line 10,
 // 11, the fields from left to right, 17; then a further line; then 18. Number 0: the text is taken.
+#![tactic(auto)]
+
 ghost use Rattle.std.specs.Prelude.{◌≡◌, ◌+◌, ◌*◌, ◌≤◌};
 ghost use Rattle.frames.specs.Kinds.{header_digits, job_digits};
 ghost use Rattle.frames.specs.Fields.{header_at};

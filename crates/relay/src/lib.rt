@@ -2,6 +2,8 @@
 //
 // `call_8`, `call_16`, `call_32`, `call_48` and `call_64` leave the answer frame at the front of the answer bytes and the flows at the front of the work bytes,
 // or return a refusal of 4 to 8 and write nothing. Each has lists of numbers for so many jobs; those of the flows are made only where there is a ring.
+#![tactic(auto)]
+
 ghost use Rattle.std.specs.Prelude.{◌≡◌, ◌++◌, ◌*◌, ◌≤◌, length, drop};
 ghost use Rattle.codec.specs.Frame.{answer_bytes};
 ghost use Rattle.verdict.specs.Called.{Ringed};

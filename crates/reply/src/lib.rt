@@ -2,6 +2,8 @@
 //
 // `reply` takes any text and writes the line that answers it, an answer or a refusal, at the front of a lent list of 45 places or more;
 // it returns how long the line is, and leaves the rest of the list as it was. A shorter list gets 0 and nothing written.
+#![tactic(auto)]
+
 ghost use Rattle.std.specs.Prelude.{length};
 ghost use Rattle.graph.specs.Waits.{waits};
 ghost use Rattle.network.specs.Costs.{cost_at};

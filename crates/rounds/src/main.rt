@@ -5,6 +5,8 @@
 // The text has 65,536 bytes at most. A line of more numbers or work places ends the program.
 //
 //   rounds ROUNDS left yes u>v:FLOW ..    how many rounds, whether a path is left, yes or no, and each flow above 0
+#![tactic(auto)]
+
 ghost use Rattle.std.specs.Prelude.{◌*◌, ◌<◌, ◌≤◌, length};
 ghost use Rattle.bits.specs.Mask.{MaskOf};
 ghost use Rattle.graph.specs.Waits.{waits};

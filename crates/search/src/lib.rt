@@ -3,6 +3,8 @@
 // so that the job says which node is meant. From the nodes of one side all steps lead to the other: the queue is scanned level by level, and while a level is
 // scanned the mask of the nodes of the other side that are not met yet stands in one number.
 // The queue and the parents are lent by the caller, so that they are made once for all rounds.
+#![tactic(auto)]
+
 ghost use Rattle.search.specs.Sought.{Ready, Sought};
 
 const FULL: u64 = 18446744073709551615;

@@ -1,6 +1,8 @@
 // The work list of n jobs: place u × n + v is for the flow on the wait from u to v.
 //
 // `clear` zeroes it for the rounds, and `inflow` adds up what flows into one job.
+#![tactic(auto)]
+
 ghost use Rattle.std.specs.Prelude.{◌≡◌, ◌*◌, ◌≤◌, length};
 ghost use Rattle.sheet.specs.Cleared.{Cleared};
 ghost use Rattle.sheet.specs.Inflow.{inflow_of, Summable};

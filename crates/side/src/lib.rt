@@ -1,5 +1,7 @@
 // The sink's side: the jobs from whose in-node and from whose out-node the sink, t's in-node, is still reached along steps with room.
 // Steps are given as 128 masks, one a node, as for the search.
+#![tactic(auto)]
+
 ghost use Rattle.side.specs.Home.{Sidable, Sided};
 
 use graph::gather;

@@ -1,4 +1,6 @@
 // The line at a place of a text: how long it is, and which line may be read at all (`bad_line`, refusal 10).
+#![tactic(auto)]
+
 ghost use Rattle.std.specs.Prelude.{◌≡◌, ◌≤◌, length};
 ghost use Rattle.text.specs.Line.{line_at, bad_line};
 

@@ -2,6 +2,8 @@
 //
 // Ticks and submitted operations are types of their own and stay apart: `age` is of ticks alone, and only `cost` opens
 // both, when the weights turn both into cost.
+#![tactic(auto)]
+
 ghost use Rattle.std.specs.Prelude.{◌≡◌};
 ghost use Rattle.ticks.specs.Costs.{age_of, cost_of};
 

@@ -3,6 +3,8 @@
 // `verdict` refuses an input by the first of refusals 1 to 8 that is due, and writes nothing then; otherwise it says wait, abort T, abort these others,
 // or not yet, with price, rounds and victims as the document defines them, and leaves the flow of the counted rounds in the work list.
 // `decide` is its part behind the checks and the search for a ring, for a caller that has a work list of zeros.
+#![tactic(auto)]
+
 ghost use Rattle.std.specs.Prelude.{◌≡◌};
 ghost use Rattle.verdict.specs.Answers.{outcome_number};
 ghost use Rattle.verdict.specs.Called.{Ringed, Called};

@@ -6,6 +6,8 @@
 //
 //   OUTCOME PRICE ROUNDS VICTIMS DIGEST    the outcome is wait, abort-t, abort-others or not-yet
 //   refused K DIGEST
+#![tactic(auto)]
+
 ghost use Rattle.std.specs.Prelude.{◌≡◌, ◌*◌, ◌%◌, ◌^◌, ◌<◌, ◌≤◌, length};
 
 use libc::{STDIN_FILENO, STDOUT_FILENO};

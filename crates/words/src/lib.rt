@@ -2,6 +2,8 @@
 //
 // `word` reads the number at a place and says where the next one starts; `words` fills a list with the numbers from a place on.
 // A number counts modulo 2^64, and is 0 where no digit stands, as at the end of the text.
+#![tactic(auto)]
+
 ghost use Rattle.std.specs.Prelude.{◌≡◌, ◌≤◌, length};
 ghost use Rattle.words.specs.Words.{word_at, words_at, words_end};
 
