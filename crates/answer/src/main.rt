@@ -3,17 +3,12 @@
 // Where the line cannot be written, a sentence on standard error says so.
 #![tactic(auto)]
 
-use libc::{STDERR_FILENO, STDIN_FILENO, STDOUT_FILENO};
-
-fn main() {
+fn main(rt: HostRuntime) {
     let mut text = [0u8; 4097];
-    let n = io::read_full(STDIN_FILENO, &mut text);
+    let n = input::read_full(&mut rt.stdin(), &mut text);
     let mut line = [0u8; 45];
     let k = reply::reply(&text[..n], &mut line);
-    if !io::write_all(STDOUT_FILENO, &line[..k]) {
-        io::write_all(
-            STDERR_FILENO,
-            b"pasagumdil: the line could not be written\n",
-        );
+    if rt.stdout().write_all(&line[..k]).is_err() {
+        let _said = eprintln!(rt; "pasagumdil: the line could not be written");
     }
 }

@@ -12,7 +12,7 @@ ghost use Rattle.frames.specs.Fields.{header_at, job_at};
 use ticks::{Operations, Ticks};
 
 // The header frame: "01, present tick, a, b, n, pools s, T, allowance".
-#[derive(Drop)]
+#[derive(Clone, Copy)]
 pub struct Header {
     pub present: Ticks,
     pub a: u16,
@@ -24,7 +24,7 @@ pub struct Header {
 }
 
 // A job frame up to its pool states: "02, job number, issue tick, N".
-#[derive(Drop)]
+#[derive(Clone, Copy)]
 pub struct Job {
     pub number: usize,
     pub issue: Ticks,
@@ -32,7 +32,7 @@ pub struct Job {
 }
 
 // The answer frame: "03, outcome, price, rounds, victims".
-#[derive(Drop)]
+#[derive(Clone, Copy)]
 pub struct Answer {
     pub outcome: u8,
     pub price: u64,
@@ -41,7 +41,7 @@ pub struct Answer {
 }
 
 // The refusal frame: "0F, number, line". Number 0: nothing is refused.
-#[derive(Drop)]
+#[derive(Clone, Copy)]
 pub struct Refusal {
     pub number: u8,
     pub line: u16,

@@ -7,78 +7,75 @@
 //   refused K                     1 where there is no row, 4 where a row names a job that is not there, 6 where T is no job
 #![tactic(auto)]
 
-ghost use Rattle.std.specs.Prelude.{◌<◌, ◌≤◌, length};
+ghost use Rattle.std.specs.Prelude.{◌<◌, ◌≤◌, length, IfOk};
 
-use libc::{STDIN_FILENO, STDOUT_FILENO};
+use std::io::{self, Stdout};
 use words::{word, words};
 
 // Writes a number.
-fn print(x: u64) {
-    io::print_hex(STDOUT_FILENO, x, 1);
+fn print(out: &Stdout, x: u64) -> io::Result<()> {
+    print!(out; "{x:x}")
 }
 
 // Writes a refusal.
-fn print_refused(number: u64) {
-    io::write_all(STDOUT_FILENO, b"refused ");
-    print(number);
+fn print_refused(out: &Stdout, number: u64) -> io::Result<()> {
+    print!(out; "refused ")?;
+    print(out, number)
 }
 
 // Writes what the graph layer says of job t.
-fn print_graph(rows: &[u64], t: usize)
+fn print_graph(out: &Stdout, rows: &[u64], t: usize) -> io::Result<()>
     requires { length rows.now ≤ 64 }
 {
     if rows.len() == 0 {
-        print_refused(1);
-        return;
+        return print_refused(out, 1);
     }
     if !graph::rows_known(rows) {
-        print_refused(4);
-        return;
+        return print_refused(out, 4);
     }
     if t >= rows.len() {
-        print_refused(6);
-        return;
+        return print_refused(out, 6);
     }
     let x = graph::on_rings(rows, t);
-    io::write_all(STDOUT_FILENO, b"reach ");
-    print(graph::reach(rows, t));
-    io::write_all(STDOUT_FILENO, b" x ");
-    print(x);
+    print!(out; "reach ")?;
+    print(out, graph::reach(rows, t))?;
+    print!(out; " x ")?;
+    print(out, x)?;
     if graph::ring_through(rows, t, x) {
-        io::write_all(STDOUT_FILENO, b" ring yes");
-        return;
+        return print!(out; " ring yes");
     }
-    io::write_all(STDOUT_FILENO, b" ring no");
+    print!(out; " ring no")
 }
 
 // Answers the line at a place, and gives the place behind it.
-fn line(text: &[u8], at: usize) -> usize
+fn line(out: &Stdout, text: &[u8], at: usize) -> io::Result<usize>
     requires { at < length text.now }
-    ensures { (at < result) × (result ≤ length text.now) }
+    ensures { IfOk result (λ next. (at < next) × (next ≤ length text.now)) }
 {
     let count = word(text, at);
     let t = word(text, count.next);
     let n = count.value as usize;
     if n > 64 {
-        return text.len();
+        return Ok(text.len());
     }
     let mut rows = [0u64; 64];
     let next = words(text, t.next, &mut rows[..n]);
-    print_graph(&rows[..n], t.value as usize);
-    io::write_all(STDOUT_FILENO, b"\n");
-    next
+    print_graph(out, &rows[..n], t.value as usize)?;
+    print!(out; "\n")?;
+    Ok(next)
 }
 
 // Answers all lines of a text.
-fn lines(text: &[u8]) {
+fn lines(out: &Stdout, text: &[u8]) -> io::Result<()> {
     let mut at = 0;
     while at < text.len() {
-        at = line(text, at);
+        at = line(out, text, at)?;
     }
+    Ok(())
 }
 
-fn main() {
-    let mut text = io::large_buffer();
-    let n = io::read_full(STDIN_FILENO, &mut text);
-    lines(&text[..n]);
+fn main(rt: HostRuntime) -> io::Result<()> {
+    let mut text = [0u8; 65536];
+    let n = input::read_full(&mut rt.stdin(), &mut text);
+    lines(&rt.stdout(), &text[..n])
 }

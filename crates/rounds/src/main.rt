@@ -7,7 +7,7 @@
 //   rounds ROUNDS left yes u>v:FLOW ..    how many rounds, whether a path is left, yes or no, and each flow above 0
 #![tactic(auto)]
 
-ghost use Rattle.std.specs.Prelude.{◌*◌, ◌<◌, ◌≤◌, length};
+ghost use Rattle.std.specs.Prelude.{◌*◌, ◌<◌, ◌≤◌, length, IfOk};
 ghost use Rattle.bits.specs.Mask.{MaskOf};
 ghost use Rattle.graph.specs.Waits.{waits};
 ghost use Rattle.graph.specs.Rings.{InX};
@@ -15,7 +15,7 @@ ghost use Rattle.flow.specs.Flowed.{Flowed};
 ghost use Rattle.checks.specs.Refusals.{Faultless};
 
 use flow::Made;
-use libc::{STDIN_FILENO, STDOUT_FILENO};
+use std::io::{self, Stdout};
 use words::words;
 
 // The rounds of a call without faults, where x is X.
@@ -35,61 +35,65 @@ fn rounds_of(
 }
 
 // Writes one flow, on the wait of place i.
-fn print_flow(i: usize, n: usize, flow: u64)
+fn print_flow(out: &Stdout, i: usize, n: usize, flow: u64) -> io::Result<()>
     requires { 0 < n }
 {
-    io::write_all(STDOUT_FILENO, b" ");
-    io::print_decimal(STDOUT_FILENO, (i / n) as u64);
-    io::write_all(STDOUT_FILENO, b">");
-    io::print_decimal(STDOUT_FILENO, (i % n) as u64);
-    io::write_all(STDOUT_FILENO, b":");
-    io::print_hex(STDOUT_FILENO, flow, 1);
+    let from = i / n;
+    let to = i % n;
+    print!(out; " {from}>{to}:{flow:x}")
 }
 
 // Writes the flows above 0 of n jobs.
-fn print_flows(work: &[u64], n: usize)
+fn print_flows(out: &Stdout, work: &[u64], n: usize) -> io::Result<()>
     requires { (0 < n) × (n ≤ 64) × (n * n ≤ length work.now) }
 {
     let mut i = 0usize;
     while i < n * n {
         let flow = work[i];
         if flow != 0 {
-            print_flow(i, n, flow);
+            print_flow(out, i, n, flow)?;
         }
         i += 1;
     }
+    Ok(())
 }
 
 // Writes what the rounds came to.
-fn print_made(made: Made) {
-    io::write_all(STDOUT_FILENO, b"rounds ");
-    io::print_hex(STDOUT_FILENO, made.rounds as u64, 1);
+fn print_made(out: &Stdout, made: Made) -> io::Result<()> {
+    let rounds = made.rounds;
+    print!(out; "rounds {rounds:x}")?;
     if made.left {
-        io::write_all(STDOUT_FILENO, b" left yes");
-        return;
+        return print!(out; " left yes");
     }
-    io::write_all(STDOUT_FILENO, b" left no");
+    print!(out; " left no")
 }
 
 // Makes the rounds of a call with so many work places and writes what they came to; nothing where the call is refused.
-fn print_rounds(rows: &[u64], costs: &[u64], t: usize, allowance: u32, places: usize)
+fn print_rounds(
+    out: &Stdout,
+    rows: &[u64],
+    costs: &[u64],
+    t: usize,
+    allowance: u32,
+    places: usize,
+) -> io::Result<()>
     requires { places ≤ 6400 }
 {
     if checks::refusal(rows, costs, t, places) != 0 {
-        return;
+        return Ok(());
     }
     let x = graph::on_rings(rows, t);
     let mut work = [6510615555426900570u64; 6400];
     let made = rounds_of(rows, costs, t, x, allowance, &mut work[..places]);
-    print_made(made);
-    print_flows(&work[..places], rows.len());
-    io::write_all(STDOUT_FILENO, b"\n");
+    print_made(out, made)?;
+    print_flows(out, &work[..places], rows.len())?;
+    print!(out; "\n")
 }
 
 // Answers the line at a place, and gives the place behind it.
-fn line(text: &[u8], at: usize) -> usize
+fn line(out: &Stdout, text: &[u8], at: usize) -> io::Result<usize>
     requires { at < length text.now }
-    ensures { (at < result) × (result ≤ length text.now) }
+    ensures { IfOk result (λ next. (at < next) × (next ≤ length text.now)) }
 {
     let mut opening = [0u64; 5];
     let first = words(text, at, &mut opening);
@@ -97,7 +101,7 @@ fn line(text: &[u8], at: usize) -> usize
     let m = opening[1] as usize;
     let places = opening[2] as usize;
     if n > 80 || m > 80 || places > 6400 {
-        return text.len();
+        return Ok(text.len());
     }
     let mut rows = [0u64; 80];
     let mut costs = [0u64; 80];
@@ -105,20 +109,21 @@ fn line(text: &[u8], at: usize) -> usize
     let end = words(text, middle, &mut costs[..m]);
     let t = opening[3] as usize;
     let allowance = (opening[4] % 4294967296) as u32;
-    print_rounds(&rows[..n], &costs[..m], t, allowance, places);
-    end
+    print_rounds(out, &rows[..n], &costs[..m], t, allowance, places)?;
+    Ok(end)
 }
 
 // Answers all lines of a text.
-fn lines(text: &[u8]) {
+fn lines(out: &Stdout, text: &[u8]) -> io::Result<()> {
     let mut at = 0;
     while at < text.len() {
-        at = line(text, at);
+        at = line(out, text, at)?;
     }
+    Ok(())
 }
 
-fn main() {
-    let mut text = io::large_buffer();
-    let n = io::read_full(STDIN_FILENO, &mut text);
-    lines(&text[..n]);
+fn main(rt: HostRuntime) -> io::Result<()> {
+    let mut text = [0u8; 65536];
+    let n = input::read_full(&mut rt.stdin(), &mut text);
+    lines(&rt.stdout(), &text[..n])
 }

@@ -8,11 +8,11 @@ ghost use Rattle.std.specs.Prelude.{◌≡◌};
 ghost use Rattle.ticks.specs.Costs.{age_of, cost_of};
 
 // A tick counter in milliseconds, modulo 2^32.
-#[derive(Drop)]
+#[derive(Clone, Copy)]
 pub struct Ticks(pub u32);
 
 // A number of operations submitted.
-#[derive(Drop)]
+#[derive(Clone, Copy)]
 pub struct Operations(pub u32);
 
 // The age at the present tick of a run issued at a tick, across a wrap of the counter too.

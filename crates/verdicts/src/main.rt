@@ -8,9 +8,9 @@
 //   refused K DIGEST
 #![tactic(auto)]
 
-ghost use Rattle.std.specs.Prelude.{◌≡◌, ◌*◌, ◌%◌, ◌^◌, ◌<◌, ◌≤◌, length};
+ghost use Rattle.std.specs.Prelude.{◌≡◌, ◌*◌, ◌%◌, ◌^◌, ◌<◌, ◌≤◌, length, IfOk};
 
-use libc::{STDIN_FILENO, STDOUT_FILENO};
+use std::io::{self, Stdout};
 use words::words;
 
 // d times 100000001B3 in hexadecimal digits, which is 2^40 + 435, modulo 2^64: d's low 24 bits go up by 40, its halves are multiplied by 435.
@@ -20,7 +20,7 @@ fn scramble(d: u64) -> u64
     let shifted = d % 16777216 * 1099511627776;
     let high = d / 4294967296 * 435 % 4294967296 * 4294967296;
     let low = d % 4294967296 * 435;
-    std::num::wrapping_add_u64(std::num::wrapping_add_u64(shifted, high), low)
+    shifted.wrapping_add(high).wrapping_add(low)
 }
 
 // The digest of a list: from CBF29CE484222325 on, d is joined by exclusive or with each place, scrambled, and joined with itself shifted down by 29.
@@ -36,67 +36,62 @@ fn digest(list: &[u64]) -> u64 {
 }
 
 // Writes a number behind a space.
-fn print_behind(x: u64) {
-    io::write_all(STDOUT_FILENO, b" ");
-    io::print_hex(STDOUT_FILENO, x, 1);
+fn print_behind(out: &Stdout, x: u64) -> io::Result<()> {
+    print!(out; " {x:x}")
 }
 
 // Writes the word for an outcome.
-fn print_outcome(outcome: verdict::Outcome) {
+fn print_outcome(out: &Stdout, outcome: verdict::Outcome) -> io::Result<()> {
     match outcome {
-        verdict::Outcome::Wait => {
-            io::write_all(STDOUT_FILENO, b"wait");
-        }
-        verdict::Outcome::AbortT => {
-            io::write_all(STDOUT_FILENO, b"abort-t");
-        }
-        verdict::Outcome::AbortOthers => {
-            io::write_all(STDOUT_FILENO, b"abort-others");
-        }
-        verdict::Outcome::NotYet => {
-            io::write_all(STDOUT_FILENO, b"not-yet");
-        }
+        verdict::Outcome::Wait => print!(out; "wait"),
+        verdict::Outcome::AbortT => print!(out; "abort-t"),
+        verdict::Outcome::AbortOthers => print!(out; "abort-others"),
+        verdict::Outcome::NotYet => print!(out; "not-yet"),
     }
 }
 
 // Writes a decision.
-fn print_decision(d: verdict::Decision) {
+fn print_decision(out: &Stdout, d: verdict::Decision) -> io::Result<()> {
     let outcome = d.outcome;
-    print_outcome(outcome);
-    print_behind(d.price);
-    print_behind(d.rounds as u64);
-    print_behind(d.victims);
+    print_outcome(out, outcome)?;
+    print_behind(out, d.price)?;
+    print_behind(out, d.rounds as u64)?;
+    print_behind(out, d.victims)
 }
 
 // Writes an answer.
-fn print_answer(answer: verdict::Answer) {
+fn print_answer(out: &Stdout, answer: verdict::Answer) -> io::Result<()> {
     match answer {
         verdict::Answer::Refused(k) => {
-            io::write_all(STDOUT_FILENO, b"refused");
-            print_behind(k as u64);
+            print!(out; "refused")?;
+            print_behind(out, k as u64)
         }
-        verdict::Answer::Decided(d) => {
-            print_decision(d);
-        }
+        verdict::Answer::Decided(d) => print_decision(out, d),
     }
 }
 
 // Makes a call with so many work places and writes its answer and the digest.
-fn print_verdict(rows: &[u64], costs: &[u64], t: usize, allowance: u32, places: usize)
+fn print_verdict(
+    out: &Stdout,
+    rows: &[u64],
+    costs: &[u64],
+    t: usize,
+    allowance: u32,
+    places: usize,
+) -> io::Result<()>
     requires { places ≤ 6400 }
 {
     let mut work = [6510615555426900570u64; 6400];
     let answer = verdict::verdict(rows, costs, t, allowance, &mut work[..places]);
-    print_answer(answer);
-    io::write_all(STDOUT_FILENO, b" ");
-    io::print_hex(STDOUT_FILENO, digest(&work[..places]), 16);
-    io::write_all(STDOUT_FILENO, b"\n");
+    print_answer(out, answer)?;
+    let digest = digest(&work[..places]);
+    print!(out; " {digest:016x}\n")
 }
 
 // Answers the line at a place, and gives the place behind it.
-fn line(text: &[u8], at: usize) -> usize
+fn line(out: &Stdout, text: &[u8], at: usize) -> io::Result<usize>
     requires { at < length text.now }
-    ensures { (at < result) × (result ≤ length text.now) }
+    ensures { IfOk result (λ next. (at < next) × (next ≤ length text.now)) }
 {
     let mut opening = [0u64; 5];
     let first = words(text, at, &mut opening);
@@ -104,7 +99,7 @@ fn line(text: &[u8], at: usize) -> usize
     let m = opening[1] as usize;
     let places = opening[2] as usize;
     if n > 80 || m > 80 || places > 6400 {
-        return text.len();
+        return Ok(text.len());
     }
     let mut rows = [0u64; 80];
     let mut costs = [0u64; 80];
@@ -112,20 +107,21 @@ fn line(text: &[u8], at: usize) -> usize
     let end = words(text, middle, &mut costs[..m]);
     let t = opening[3] as usize;
     let allowance = (opening[4] % 4294967296) as u32;
-    print_verdict(&rows[..n], &costs[..m], t, allowance, places);
-    end
+    print_verdict(out, &rows[..n], &costs[..m], t, allowance, places)?;
+    Ok(end)
 }
 
 // Answers all lines of a text.
-fn lines(text: &[u8]) {
+fn lines(out: &Stdout, text: &[u8]) -> io::Result<()> {
     let mut at = 0;
     while at < text.len() {
-        at = line(text, at);
+        at = line(out, text, at)?;
     }
+    Ok(())
 }
 
-fn main() {
-    let mut text = io::large_buffer();
-    let n = io::read_full(STDIN_FILENO, &mut text);
-    lines(&text[..n]);
+fn main(rt: HostRuntime) -> io::Result<()> {
+    let mut text = [0u8; 65536];
+    let n = input::read_full(&mut rt.stdin(), &mut text);
+    lines(&rt.stdout(), &text[..n])
 }
