@@ -6,6 +6,7 @@
 --   fault_4 .. fault_8               the fault that a check has found
 --   checked_first                    so no fault of a smaller number is there
 --   refuse                           a fault found then is the refusal that is due
+--   due_crowded                      refusal 1 is due where there are more rows than 64
 --   checked_faultless                after all checks there is no fault
 use mathlib.Core.Path.{◌≡◌, refl, sym, ap, subst}
 use mathlib.Core.Logic.{◌≢◌, ⊎_elim}
@@ -209,3 +210,7 @@ module _ (rows costs : List ℕ) (τ work : ℕ) where
   -- a fault found after the checks before it is the refusal that is due
   pub refuse : (k : ℕ) → Checked rows costs τ work k → Fault rows costs τ work k → Due rows costs τ work k
   refuse k C f = refused k (record { fault = f; first = checked_first k C })
+
+  -- the first refusal, for more rows than 64
+  pub due_crowded : 64 < length rows → Due rows costs τ work 1
+  due_crowded l = refuse 1 checked_1 (crowded l)

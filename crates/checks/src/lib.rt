@@ -45,6 +45,7 @@ fn sum_in_range(costs: &[u64]) -> u64
 const HIGHEST_SUM: u64 = 9223372036854775808;
 
 // The number of the refusal that is due to an input with so many places of work, or 0.
+#[tactic(auto, using(crate::proofs::CheckedLaws::due_crowded))]
 pub fn refusal(rows: &[u64], costs: &[u64], t: usize, places: usize) -> u8
     ensures { Due rows.now costs.now t places result }
 {
