@@ -2,6 +2,9 @@ use Rattle.std.proofs.Common.{arith}
 use Rattle.sheet.proofs.InflowLaws.{inflow_start, inflow_place, inflow_grid, inflow_fits, inflow_turn, inflow_end}
 use Rattle.sheet.proofs.inflow.Goals as goal
 
+pub loop-v-preserved : goal.loop-v-preserved
+loop-v-preserved c = inflow_turn _ _ _ _ _ c.loop-v.invariant c.loop-v-test.true
+
 pub loop-v-init : goal.loop-v-init
 loop-v-init c = inflow_start _ _ _ c.requires
 
@@ -25,9 +28,6 @@ overflow_add-v c = let l = c.loop-v.invariant.given.few in omega (arith, c.loop-
 
 pub loop-v-smaller : goal.loop-v-smaller
 loop-v-smaller c = omega (arith, c.loop-v-test.true)
-
-pub loop-v-preserved : goal.loop-v-preserved
-loop-v-preserved c = inflow_turn _ _ _ _ _ c.loop-v.invariant c.loop-v-test.true
 
 pub returns : goal.returns
 returns c = inflow_end _ _ _ _ _ c.loop-v.invariant c.loop-v-test.false
