@@ -1,4 +1,3 @@
-use native.Mathlib.Omega.{arith}
 use Prim.Native.Nat.{◌/◌}
 use native.Mathlib.Omega.{arith}
 use Rattle.bits.proofs.Digits.{one_shl}
