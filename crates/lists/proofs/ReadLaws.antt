@@ -18,7 +18,7 @@ use Rattle.lists.specs.Numbers.{numbers}
 pub numbers_length : (k : ℕ) (b : List ℕ) → length (numbers k b) ≡ k
 unfolding numbers
 numbers_length zero b = refl
-numbers_length (suc k) b = ap suc (numbers_length k (drop 8 b))
+numbers_length (suc k) b = ap suc (numbers_length k _)
 
 number_drop : (b : List ℕ) (at k : ℕ) → number_at (drop 8 b) at k ≡ number_at b (8 + at) k
 unfolding number_at
