@@ -4,7 +4,7 @@
 #   sh tests/slips.sh
 #
 # In a copy of the tree outside the repository a snapshot whose answer the document gives is answered first by the code as it is, which must give that answer,
-# then by the edited code, which must give the wrong answer written here: `rt try` runs both, on the interpreter and compiled three ways.
+# then by the edited code, which must give the wrong answer written here: `rt try` runs both, on the interpreter and compiled.
 # A line for each: what is wrong, the edit, the right answer, the wrong answer seen. Ends with 1 where one of them is another.
 # Answers are as the programs write them. verdicts: outcome, price, rounds, victims (job k as 2^k), all hexadecimal, and a digest of the work list.
 # rounds: rounds, whether a path is left, and each flow above 0. answer: a frame.
@@ -13,7 +13,19 @@ CDPATH= cd -- "$(dirname -- "$0")/.."
 folder=$(mktemp -d)
 trap 'rm -rf "$folder"' EXIT
 trap 'exit 130' INT TERM
-cp -R crates crates.txt "$folder"
+cp crates.txt "$folder"
+mkdir "$folder/crates"
+
+# fresh CRATE: its files in the copy, as they are in the tree.
+fresh() {
+    rm -rf "$folder/crates/$1"
+    mkdir "$folder/crates/$1"
+    for each in crates/"$1"/*; do
+        [ "$each" = "crates/$1/out" ] || cp -R "$each" "$folder/crates/$1"
+    done
+}
+
+for crate in crates/*/; do fresh "$(basename "$crate")"; done
 
 # edit CRATE LABEL: makes the replacements of an edit in the copy. As for `rt must-fail`, each old text must stand in its file exactly once.
 edit() {
@@ -44,8 +56,7 @@ edit() {
 
 # writes PROGRAM LINE: whether the program of the copy writes this line, however it is run.
 writes() {
-    echo "$2" > "$folder/crates/$1/stdout"
-    (cd "$folder" && rt try "$1") > "$folder/said" 2>&1
+    (cd "$folder/crates/$1" && rt try < stdin) > "$folder/written" 2> "$folder/said" && [ "$(cat "$folder/written")" = "$2" ]
 }
 
 # see WHAT CRATE LABEL PROGRAM INPUT RIGHT WRONG
@@ -56,16 +67,15 @@ see() {
     if ! writes "$4" "$6"; then
         result="NOT SEEN: the code as it is does not write $6"
         wrong=yes
-        cat "$folder/said" >&2
+        cat "$folder/written" "$folder/said" >&2
     else
         edit "$2" "$3"
         if ! writes "$4" "$7"; then
             result="NOT SEEN: the edited code does not write $7"
             wrong=yes
-            cat "$folder/said" >&2
+            cat "$folder/written" "$folder/said" >&2
         fi
-        rm -rf "$folder/crates/$2"
-        cp -R "crates/$2" "$folder/crates"
+        fresh "$2"
     fi
     echo "$1: $2/must-fail/$3.edit; $result"
 }
