@@ -1,0 +1,10 @@
+-- `rounds::rounds_of` meets its contract: the rounds on the cleared list. Assumes nothing.
+use Rattle.checks.proofs.RefusalLaws.{faultless_few, faultless_size}
+use Rattle.rounds.proofs.WorkLaws.{cleared_accepted}
+use Rattle.rounds.proofs.rounds_of.Goals as goal
+
+pub clear-requires : goal.clear-requires
+clear-requires c = (faultless_few _ _ _ _ c.requires.0, faultless_size _ _ _ _ c.requires.0)
+
+pub make_rounds-requires : goal.make_rounds-requires
+make_rounds-requires c = cleared_accepted _ _ _ _ _ _ c.clear.ensures c.requires.0 c.requires.1
