@@ -10,7 +10,7 @@ ghost use Rattle.words.specs.Words.{word_at, words_at, words_end};
 use digits::{digit_value, is_digit};
 
 // A number, and the place behind it.
-#[derive(Drop)]
+#[derive(Clone, Copy)]
 pub struct Number {
     pub value: u64,
     pub next: usize,
