@@ -11,6 +11,7 @@ use Prim.Native.Nat.{ℕ, ◌+◌, ◌*◌, ◌-◌, ◌<◌, ◌≤◌}
 use native.Mathlib.Nat.{add-zero}
 use native.Mathlib.Decide.{dec_lt}
 use native.Mathlib.Omega.{arith}
+use Rattle.std.proofs.lemmas.Bool.Decides.{nat_tests}
 use borrow.Author.Tests.{le-leb, lt-leb}
 use Rattle.digits.specs.Digits.{is_digit, digit, byte_at, number}
 
@@ -22,7 +23,7 @@ module _ (c : ℕ) where
   module _ (a : 48 ≤ c) where
     pub decimal : c ≤ 57 → (is_digit c ≡ true) × (digit c ≡ c - 48)
     unfolding is_digit digit
-    decimal b = (simp (le-leb _ _ a, le-leb _ _ b), simp (le-leb _ _ a, le-leb _ _ b))
+    decimal b = (grind (arith, nat_tests), grind (arith, nat_tests))
 
     module _ (b : 57 < c) where
       pub gap : c < 65 → (is_digit c ≡ false) × (digit c ≡ 0)
@@ -32,7 +33,7 @@ module _ (c : ℕ) where
       module _ (d : 65 ≤ c) where
         pub letter : c ≤ 70 → (is_digit c ≡ true) × (digit c ≡ c - 55)
         unfolding is_digit digit
-        letter e = (simp (le-leb _ _ a, lt-leb _ _ b, le-leb _ _ d, le-leb _ _ e), simp (le-leb _ _ a, lt-leb _ _ b, le-leb _ _ d, le-leb _ _ e))
+        letter e = (grind (arith, nat_tests), grind (arith, nat_tests))
 
         pub high : 70 < c → (is_digit c ≡ false) × (digit c ≡ 0)
         unfolding is_digit digit

@@ -4,7 +4,7 @@ use Rattle.text.proofs.LineLaws.{line_fits, bad_odd, bad_torn, scanned_start, sc
 use Rattle.text.proofs.bad_line.Goals as goal
 
 pub returns-then-bytes-eq1 : goal.returns-then-bytes-eq1
-returns-then-bytes-eq1 c = sym (bad_odd _ _ _ c.requires.1 c.if-bytes-eq1.true)
+returns-then-bytes-eq1 c = sym (bad_odd _ _ _ c.requires.1 (omega arith))
 
 pub overflow_add-at : goal.overflow_add-at
 overflow_add-at c = let w = line_fits c.args.text.now c.args.at c.requires.0 in omega arith
