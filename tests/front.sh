@@ -1,6 +1,6 @@
 #!/bin/sh
 # The front door, on a copy of this tree at a path with a space: links, CDPATH, statuses, runs at once, locks, what is said.
-# The lines expected are document 01's. It takes the crates as they are proved in target/, and proves again only the last of them.
+# The lines expected are document 01's. It takes the crates as they are proved in crates/*/out, and proves again only the last of them.
 set -eu
 CDPATH= cd -- "$(dirname -- "$0")/.."
 folder=$(mktemp -d)
@@ -56,11 +56,17 @@ path_without() (
 
 ./pasagumdil answer examples/document.txt >/dev/null
 ./pasagumdil library >/dev/null
-mkdir -p "$tree/build"
+mkdir -p "$tree/build" "$tree/crates"
 for each in * .gitignore; do
     case $each in
-    target | build) ;;
+    crates | build) ;;
     *) cp -Rp -- "$each" "$tree/" ;;
+    esac
+done
+for each in crates/*/*; do
+    case $each in
+    */out) ;;
+    *) mkdir -p "$tree/$(dirname "$each")" && cp -Rp -- "$each" "$tree/$each" ;;
     esac
 done
 cp -p build/answer build/libentry.a "$tree/build/"
@@ -138,25 +144,26 @@ same "the other test, which has ended with it" "$counted" "$(cat "$folder/alive"
 # ---- Runs at once ----
 
 # Only the last crate is to be proved again. One run proves it, and says so as it goes; the other waits, and has nothing left to do.
-[ -d target/rlib ] || same "the proved crates in target/" "there, as './pasagumdil test' leaves them" "none"
-mkdir -p "$tree/target"
-cp -R target/rlib target/stamp "$tree/target/"
+[ -d crates/reply/out/rlib ] || same "the proved crates in crates/*/out" "there, as './pasagumdil test' leaves them" "none"
+for each in crates/*/out/rlib; do
+    mkdir -p "$tree/$(dirname "$each")"
+    cp -R "$each" "$tree/$each"
+done
 echo '// proved again' >> "$tree/crates/answer/src/main.rt"
-count=$(sed -n 's/^answer: //p' crates.txt | tr ' ' '\n' | grep -vcx 'io\|libc')
-count=$((count + 1))
+count=$(($(sed -n 's/^answer: //p' crates.txt | wc -w) + 1))
 timeout 300 "$front" answer "$text" >"$folder/out1" 2>"$folder/err1" &
 one=$!
 timeout 300 "$front" answer "$text" >"$folder/out2" 2>"$folder/err2" &
 two=$!
 started="$one $two"
-until_true grep -q "$((count - 1)) of $count: " "$folder/err1" "$folder/err2"
+until_true grep -q "proving and building the program" "$folder/err1" "$folder/err2"
 kill -0 $one && kill -0 $two || same "progress" "line by line" "all at the end"
 wait $one || same "the status of the first run" 0 $?
 wait $two || same "the status of the second run" 0 $?
 started=
 same "the lines of two runs at once" "$line $line" "$(cat "$folder/out1" "$folder/out2" | tr '\n' ' ' | sed 's/ $//')"
 same "how many waited" 1 "$(cat "$folder/err1" "$folder/err2" | grep -c 'another run is building; waiting')"
-same "how many proved" 1 "$(cat "$folder/err1" "$folder/err2" | grep -c "$count of $count: answer proved")"
+same "how many proved" 1 "$(cat "$folder/err1" "$folder/err2" | grep -c "of $count: answer proved")"
 
 # hold: somebody builds, and the lock of that kind is held.
 hold() {
@@ -174,14 +181,15 @@ hold() {
 # Whether somebody has the lock of flock.
 is_held() { ! flock -n "$tree/build/lock" true; }
 
-# While another run builds, a fresh program answers at once, its target/ gone; one that is not fresh waits, and answers once that run has ended,
+# While another run builds, a fresh program answers at once, what the kit left gone; one that is not fresh waits, and answers once that run has ended,
 # however it ended. With flock and without. Another kit than the last gets a word.
 waiting() {
     hold "$1"
-    rm -rf "$tree/target.away"
-    mv "$tree/target" "$tree/target.away"
+    rm -rf "$tree/crates.away"
+    mkdir "$tree/crates.away"
+    for each in "$tree"/crates/*/out; do mv "$each" "$tree/crates.away/$(basename "$(dirname "$each")")"; done
     same "a fresh program while another run builds" "0 $line quiet" "$(result "$front" answer "$text")"
-    mv "$tree/target.away" "$tree/target"
+    for each in "$tree"/crates.away/*; do mv "$each" "$tree/crates/$(basename "$each")/out"; done
     touch "$tree/crates/answer/src/main.rt"
     timeout 300 "$front" answer "$text" >"$folder/out1" 2>"$folder/err1" &
     one=$!
