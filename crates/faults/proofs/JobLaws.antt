@@ -2,12 +2,15 @@
 -- Assumes nothing.
 --
 --   age_old, age_young                     the ways out of `age_fault`
+--   aged_old, aged_young                   the same for the tactics
 --   many_none, many_over, many_right       the ways out of `operations_fault`
 --   fields_number, fields_age, fields_many   the ways out of `fields_fault`
 --   above_none, above_more, above_bad      the states of the first p pools
 --   waits_none, waits_on, waits_off        the waits at the first p pools
+--   waited_on, waited_off                  the same for the tactics
 --   waits_small                            a job waits at no more pools than there are
 --   job_frame .. job_right                 the ways out of `job_fault`
+--   waited_twice, waited_once              the last two of them for the tactics
 use mathlib.Core.Path.{◌≡◌, refl, sym, ap, ◌∙◌, subst}
 use mathlib.Core.Bool.{true, false}
 use mathlib.Core.List.{List}
@@ -42,6 +45,13 @@ module _ (present issue g : Ticks) (e : g ≡ age_of present issue) where
   pub age_young : g.0 < 2 ^ 31 → age_fault present issue ≡ 0
   unfolding age_fault ◌when◌
   age_young a = rw (← e) (simp (lt-leb _ _ a))
+
+-- the same by the age itself
+pub aged_old : (present issue : Ticks) → 2 ^ 31 ≤ (age_of present issue).0 → age_fault present issue ≡ 15
+aged_old present issue a = age_old present issue _ refl a
+
+pub aged_young : (present issue : Ticks) → (age_of present issue).0 < 2 ^ 31 → age_fault present issue ≡ 0
+aged_young present issue a = age_young present issue _ refl a
 
 module _ (m : Operations) where
   pub many_none : m.0 ≡ 0 → operations_fault m ≡ 14
@@ -100,6 +110,13 @@ module _ (t : List ℕ) (at : ℕ) where
     unfolding waits_in count sum state_byte
     waits_off w f a = let s : p + 1 ≡ suc p = omega arith in rw (s, ← e, ← f) (simp (ne_eqb _ _ a) (sym (add-zero w)))
 
+-- the same by the byte itself
+pub waited_on : (t : List ℕ) (at p : ℕ) → byte_at t (at + 20 + 2 * p) ≡ 2 → waits_in t at (p + 1) ≡ waits_in t at p + 1
+waited_on t at p a = sym (waits_on t at p _ refl _ refl a)
+
+pub waited_off : (t : List ℕ) (at p : ℕ) → (byte_at t (at + 20 + 2 * p) ≡ 2 → ⊥) → waits_in t at (p + 1) ≡ waits_in t at p
+waited_off t at p a = sym (waits_off t at p _ refl _ refl a)
+
 pub waits_small : (t : List ℕ) (at s : ℕ) → waits_in t at s ≤ s
 unfolding waits_in count sum
 waits_small t at zero = omega arith
@@ -136,3 +153,11 @@ module _ (h : Header) (t : List ℕ) (due at f : ℕ) (z : f ≡ frame_fault t a
         pub job_right : w ≤ 1 → job_fault h t due at ≡ 0
         unfolding ◌then◌ ◌when◌
         job_right x = rest ∙ rw (← u) (simp (s, le-ltb _ _ x))
+
+-- the last two ways out by the definitions themselves
+module _ (h : Header) (t : List ℕ) (due at : ℕ) where
+  pub waited_twice : frame_fault t at job_kind (job_digits h.s) ≡ 0 → fields_fault h due (job_at t at) ≡ 0 → state_above t at h.s ≡ false → 1 < waits_in t at h.s → job_fault h t due at ≡ 17
+  waited_twice y n s x = job_twice h t due at _ refl y _ refl _ refl n s _ refl x
+
+  pub waited_once : frame_fault t at job_kind (job_digits h.s) ≡ 0 → fields_fault h due (job_at t at) ≡ 0 → state_above t at h.s ≡ false → waits_in t at h.s ≤ 1 → job_fault h t due at ≡ 0
+  waited_once y n s x = job_right h t due at _ refl y _ refl _ refl n s _ refl x

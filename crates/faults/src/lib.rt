@@ -13,6 +13,7 @@ use frames::{Header, Job};
 use ticks::{Operations, Ticks};
 
 // Whether every field of a header is in range.
+#[tactic(auto, unfolding(crate::specs::HeaderFault::in_range))]
 fn in_range(h: Header) -> bool
     ensures { result ≡ in_range h }
 {
@@ -59,6 +60,7 @@ pub fn header_fault(text: &[u8], at: usize) -> u8
 }
 
 // 15, where a clock went back; else 0.
+#[tactic(auto, using(crate::proofs::JobLaws::aged_old, crate::proofs::JobLaws::aged_young))]
 fn age_fault(present: Ticks, issue: Ticks) -> u8
     ensures { result ≡ age_fault present issue }
 {
@@ -112,6 +114,7 @@ fn state_above(text: &[u8], at: usize, s: usize) -> bool
 }
 
 // At how many of the first s pools the job of the frame at a place waits.
+#[tactic(auto, using(crate::proofs::JobLaws::waited_on, crate::proofs::JobLaws::waited_off))]
 pub fn waits_in(text: &[u8], at: usize, s: usize) -> usize
     requires { at + job_digits s < 2 ^ 64 }
     ensures { result ≡ waits_in text.now at s }
@@ -128,6 +131,7 @@ pub fn waits_in(text: &[u8], at: usize, s: usize) -> usize
 }
 
 // The first refusal of the line at a place as the frame of the job due, from 10, 11 and 13 to 17; 0 where there is none.
+#[tactic(auto, using(crate::proofs::JobLaws::waited_twice, crate::proofs::JobLaws::waited_once))]
 pub fn job_fault(h: Header, text: &[u8], due: usize, at: usize) -> u8
     requires { at + job_digits h.s < 2 ^ 64 }
     ensures { result ≡ job_fault h text.now due at }

@@ -1,6 +1,6 @@
 -- `faults::job_fault`: a chain of early returns, one law each.
 use mathlib.Core.Path.{sym, ◌∙◌}
-use Rattle.faults.proofs.JobLaws.{frame_is, job_frame, job_fields, job_above, job_twice, job_right}
+use Rattle.faults.proofs.JobLaws.{frame_is, job_frame, job_fields, job_above}
 use Rattle.faults.proofs.job_fault.Goals as goal
 
 pub returns-then-f-ne0 : goal.returns-then-f-ne0
@@ -11,9 +11,3 @@ returns-then-g-ne0 c = sym (job_fields _ _ _ _ _ (frame_is _ _ _ _ _ _ c.digits.
 
 pub returns-then-state_above : goal.returns-then-state_above
 returns-then-state_above c = sym (job_above _ _ _ _ _ (frame_is _ _ _ _ _ _ c.digits.ensures c.frame_at-f.ensures) c.if-f-ne0.false _ c.read.ensures _ c.fields_fault-g.ensures c.if-g-ne0.false (sym c.state_above.ensures ∙ c.if-state_above.true))
-
-pub returns-then-waits_in-gt1 : goal.returns-then-waits_in-gt1
-returns-then-waits_in-gt1 c = sym (job_twice _ _ _ _ _ (frame_is _ _ _ _ _ _ c.digits.ensures c.frame_at-f.ensures) c.if-f-ne0.false _ c.read.ensures _ c.fields_fault-g.ensures c.if-g-ne0.false (sym c.state_above.ensures ∙ c.if-state_above.false) _ c.waits_in.ensures c.if-waits_in-gt1.true)
-
-pub returns : goal.returns
-returns c = sym (job_right _ _ _ _ _ (frame_is _ _ _ _ _ _ c.digits.ensures c.frame_at-f.ensures) c.if-f-ne0.false _ c.read.ensures _ c.fields_fault-g.ensures c.if-g-ne0.false (sym c.state_above.ensures ∙ c.if-state_above.false) _ c.waits_in.ensures c.if-waits_in-gt1.false)
