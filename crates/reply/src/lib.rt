@@ -29,6 +29,7 @@ fn decide(rows: &[u64], costs: &[u64], t: usize, allowance: u32) -> frames::Answ
 }
 
 // The line that answers a text.
+#[tactic(auto, using(crate::proofs::LineLaws::reply_short))]
 pub fn reply(text: &[u8], line: &mut [u8]) -> usize
     ensures { Replied text.now line.old result line.new }
 {
