@@ -90,6 +90,7 @@ fn fill_costs(h: Header, text: &[u8], costs: &mut [u64])
 }
 
 // Reads a snapshot: its first refusal, or its n, T and allowance with the rows and costs of its jobs.
+#[tactic(auto, using(crate::proofs::ReadLaws::read_refused))]
 pub fn read(text: &[u8], rows: &mut [u64], costs: &mut [u64]) -> Snapshot
     ensures { IsRead text.now rows.old costs.old rows.new costs.new result }
 {

