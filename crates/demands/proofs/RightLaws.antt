@@ -21,7 +21,7 @@ use Rattle.walks.specs.Walk.{Walk}
 use Rattle.graph.specs.Waits.{waits}
 use Rattle.graph.specs.Rings.{Ring}
 use Rattle.network.specs.Costs.{cost_at}
-use Rattle.network.specs.Sets.{Passes, Best, price}
+use Rattle.network.specs.Sets.{Passes, Best}
 use Rattle.network.proofs.BestLaws.{best_unique, best_one}
 use Rattle.checks.specs.Refusals.{Faultless}
 use Rattle.checks.proofs.RefusalLaws.{faultless_job, faultless_apart, faultless_positive}

@@ -27,7 +27,7 @@ use Rattle.verdict.specs.Called.{Called}
 use Rattle.ticks.specs.Costs.{age_of}
 use Rattle.frames.specs.Records.{answered}
 use Rattle.frames.specs.Fields.{header_at}
-use Rattle.refusals.specs.Refused.{refusal_of, Unrefused}
+use Rattle.refusals.specs.Refused.{refusal_of}
 use Rattle.reader.specs.declared.Snapshot.{Snapshot}
 use Rattle.reader.specs.Snapshots.{IsRead}
 use Rattle.lines.specs.Lines.{answer_line, refusal_line}

@@ -2,4 +2,3 @@
 //
 // specs/Demands.antt states them, proofs/Demands.antt has the theorems.
 #![tactic(auto)]
-
