@@ -88,7 +88,7 @@ fn print_verdict(
     print!(out; " {digest:016x}\n")
 }
 
-// Answers the line at a place, and gives the place behind it.
+// Answers the line at a place, and gives the place behind it. The only error is that of a write, which leaves the text as it was.
 fn line(out: &Stdout, text: &[u8], at: usize) -> io::Result<usize>
     requires { at < length text.now }
     ensures { IfOk result (λ next. (at < next) × (next ≤ length text.now)) }
