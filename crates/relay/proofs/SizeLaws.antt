@@ -3,7 +3,7 @@
 --
 --   front            the first m of N zeros are m zeros; front_length: they are m
 --   lent             the parts for n jobs are what the start of a call asks
---   prefix           the first places of a list whose front was lent are that front
+--   prefix           the first places of a list whose front was lent are that front; prefix_under, prefix_length
 --   read_length      behind a start with a ring there are n rows and n costs
 --   call_ready       the parts for n jobs are what the rounds ask
 --   call_opened      the rounds on these parts, written out, are an answer of the entry
@@ -12,7 +12,7 @@ use mathlib.Core.Logic.{◌≢◌}
 use mathlib.Core.List.{List, ◌∷◌, ◌++◌}
 use Prim.Native.Nat.{ℕ, zero, suc, ◌*◌, ◌/◌, ◌≤◌}
 use native.Mathlib.Omega.{arith}
-use lib.ListN.{length, take, replicate, length-replicate}
+use lib.ListN.{length, take, replicate, length-append, length-replicate}
 use lib.Seq.{take_at}
 use Rattle.verdict.specs.Called.{Ringed}
 use Rattle.bytewise.specs.Faults.{Sized}
@@ -42,6 +42,12 @@ lent rows costs work answer n k S = record {
 
 pub prefix : (r t : List ℕ) (n : ℕ) → n ≡ length r → take n (r ++ t) ≡ r
 prefix r t n e = take_at r t n (sym e)
+
+pub prefix_under : (r t : List ℕ) (n : ℕ) → n ≡ length r → n ≤ length (r ++ t)
+prefix_under r t n e = omega (arith, length-append r t)
+
+pub prefix_length : (r t : List ℕ) (n : ℕ) → n ≡ length r → n ≡ length (take n (r ++ t))
+prefix_length r t n e = e ∙ ap length (sym (prefix r t n e))
 
 -- ---- the rounds
 
