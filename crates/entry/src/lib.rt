@@ -8,6 +8,7 @@ ghost use Rattle.reply.specs.Replied.{Replied};
 ghost use Rattle.bytewise.specs.Entered.{Entered};
 
 // For C: the verdict call on lists of bytes. Returns the number of the refusal, or 0.
+#[tactic(auto, using(crate::proofs::ByteLaws::byte_refusals))]
 #[unsafe(no_mangle)]
 pub extern "C" fn pasagumdil_verdict(
     rows: &[u8],
