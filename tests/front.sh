@@ -143,12 +143,13 @@ same "the other test, which has ended with it" "$counted" "$(cat "$folder/alive"
 
 # ---- Runs at once ----
 
-# Only the last crate is to be proved again. One run proves it, and says so as it goes; the other waits, and has nothing left to do.
+# Only the last crate and one below it are to be proved again. One run proves them, and says so as it goes; the other waits, and has nothing left to do.
 [ -d crates/reply/out/rlib ] || same "the proved crates in crates/*/out" "there, as './pasagumdil test' leaves them" "none"
 for each in crates/*/out/rlib; do
     mkdir -p "$tree/$(dirname "$each")"
     cp -R "$each" "$tree/$each"
 done
+echo '// proved again' >> "$tree/crates/input/src/lib.rt"
 echo '// proved again' >> "$tree/crates/answer/src/main.rt"
 count=$(($(sed -n 's/^answer: //p' crates.txt | wc -w) + 1))
 timeout 300 "$front" answer "$text" >"$folder/out1" 2>"$folder/err1" &
@@ -156,14 +157,14 @@ one=$!
 timeout 300 "$front" answer "$text" >"$folder/out2" 2>"$folder/err2" &
 two=$!
 started="$one $two"
-until_true grep -q "proving and building the program" "$folder/err1" "$folder/err2"
+until_true grep -q "1 of at most $count: input proved" "$folder/err1" "$folder/err2"
 kill -0 $one && kill -0 $two || same "progress" "line by line" "all at the end"
 wait $one || same "the status of the first run" 0 $?
 wait $two || same "the status of the second run" 0 $?
 started=
 same "the lines of two runs at once" "$line $line" "$(cat "$folder/out1" "$folder/out2" | tr '\n' ' ' | sed 's/ $//')"
 same "how many waited" 1 "$(cat "$folder/err1" "$folder/err2" | grep -c 'another run is building; waiting')"
-same "how many proved" 1 "$(cat "$folder/err1" "$folder/err2" | grep -c "of $count: answer proved")"
+same "how many proved" 1 "$(cat "$folder/err1" "$folder/err2" | grep -c "2 of at most $count: answer proved")"
 
 # hold: somebody builds, and the lock of that kind is held.
 hold() {
