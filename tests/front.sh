@@ -192,6 +192,7 @@ waiting() {
     same "a fresh program while another run builds" "0 $line quiet" "$(result "$front" answer "$text")"
     for each in "$tree"/crates.away/*; do mv "$each" "$tree/crates/$(basename "$each")/out"; done
     touch "$tree/crates/answer/src/main.rt"
+    : >"$folder/err1"
     timeout 300 "$front" answer "$text" >"$folder/out1" 2>"$folder/err1" &
     one=$!
     until_true grep -q 'another run is building; waiting' "$folder/err1"

@@ -56,7 +56,7 @@ edit() {
 
 # writes PROGRAM LINE: whether the program of the copy writes this line, however it is run.
 writes() {
-    (cd "$folder/crates/$1" && rt try < stdin) > "$folder/written" 2> "$folder/said" && [ "$(cat "$folder/written")" = "$2" ]
+    (cd "$folder/crates/$1" && rt try < stdin) > "$folder/written" 2> "$folder/said" && echo "$2" | cmp -s - "$folder/written"
 }
 
 # see WHAT CRATE LABEL PROGRAM INPUT RIGHT WRONG

@@ -4,12 +4,12 @@
 --   Searching                          k rounds were made, and the search has answered for the next one; F₀ is the work list where the loop begins
 --   searching_start                    before the first round
 --   searching_again                    where the next loop begins
---   searching-path, searching_ready    the path that was found; what `search` asks for
+--   searching_ready                    what `search` asks for
 --   searching_roundable                what `round` asks for
 --   searching_next                     one more round, and a search
 --   searching_left, searching_settled  the allowance is used up; no path is left
 --   Lowering                           k rounds were made, of them some behind the first k₀, and the way down the levels has answered for the next one
---   lowering-layerable, lowering_start what `layer` asks for; the levels of a search
+--   lowering_start                     the levels of a search
 --   lowering_roundable, lowering_descendable, lowering_next, lowering_left
 --                                      as above, down the levels
 --   lowering_search                    no path is left down the levels, and a search

@@ -7,74 +7,77 @@
 //   refused K                     1 where there is no row, 4 where a row names a job that is not there, 6 where T is no job
 #![tactic(auto)]
 
-ghost use Rattle.std.specs.Prelude.{◌<◌, ◌≤◌, length, IfOk};
+ghost use Rattle.std.specs.Prelude.{◌<◌, ◌≤◌, length};
 
-use std::io::{self, Stdout};
+use std::io::Stdout;
 use words::{word, words};
 
-// Writes a number.
-fn print(out: &Stdout, x: u64) -> io::Result<()> {
-    print!(out; "{x:x}")
+// Writes a number. A write that fails is let go, here and below.
+fn print(out: &Stdout, x: u64) {
+    let _written = print!(out; "{x:x}");
 }
 
 // Writes a refusal.
-fn print_refused(out: &Stdout, number: u64) -> io::Result<()> {
-    print!(out; "refused ")?;
-    print(out, number)
+fn print_refused(out: &Stdout, number: u64) {
+    let _written = print!(out; "refused ");
+    print(out, number);
 }
 
 // Writes what the graph layer says of job t.
-fn print_graph(out: &Stdout, rows: &[u64], t: usize) -> io::Result<()>
+fn print_graph(out: &Stdout, rows: &[u64], t: usize)
     requires { length rows.now ≤ 64 }
 {
     if rows.len() == 0 {
-        return print_refused(out, 1);
+        print_refused(out, 1);
+        return;
     }
     if !graph::rows_known(rows) {
-        return print_refused(out, 4);
+        print_refused(out, 4);
+        return;
     }
     if t >= rows.len() {
-        return print_refused(out, 6);
+        print_refused(out, 6);
+        return;
     }
     let x = graph::on_rings(rows, t);
-    print!(out; "reach ")?;
-    print(out, graph::reach(rows, t))?;
-    print!(out; " x ")?;
-    print(out, x)?;
+    let _written = print!(out; "reach ");
+    print(out, graph::reach(rows, t));
+    let _written = print!(out; " x ");
+    print(out, x);
     if graph::ring_through(rows, t, x) {
-        return print!(out; " ring yes");
+        let _written = print!(out; " ring yes");
+        return;
     }
-    print!(out; " ring no")
+    let _written = print!(out; " ring no");
 }
 
-// Answers the line at a place, and gives the place behind it. The only error is that of a write, which leaves the text as it was.
-fn line(out: &Stdout, text: &[u8], at: usize) -> io::Result<usize>
+// Answers the line at a place, and gives the place behind it.
+fn line(out: &Stdout, text: &[u8], at: usize) -> usize
     requires { at < length text.now }
-    ensures { IfOk result (λ next. (at < next) × (next ≤ length text.now)) }
+    ensures { (at < result) × (result ≤ length text.now) }
 {
     let count = word(text, at);
     let t = word(text, count.next);
     let n = count.value as usize;
     if n > 64 {
-        return Ok(text.len());
+        return text.len();
     }
     let mut rows = [0u64; 64];
     let next = words(text, t.next, &mut rows[..n]);
-    print_graph(out, &rows[..n], t.value as usize)?;
-    print!(out; "\n")?;
-    Ok(next)
+    print_graph(out, &rows[..n], t.value as usize);
+    let _written = print!(out; "\n");
+    next
 }
 
 // Answers all lines of a text.
-fn lines(out: &Stdout, text: &[u8]) -> io::Result<()> {
+fn lines(out: &Stdout, text: &[u8]) {
     let mut at = 0;
     while at < text.len() {
-        at = line(out, text, at)?;
+        at = line(out, text, at);
     }
-    Ok(())
 }
 
-fn main(rt: HostRuntime) -> io::Result<()> {
+fn main(rt: HostRuntime) {
     let mut text = [0u8; 65536];
     let n = input::read_full(&mut rt.stdin(), &mut text);
     lines(&rt.stdout(), &text[..n])

@@ -8,9 +8,9 @@
 //   refused K DIGEST
 #![tactic(auto)]
 
-ghost use Rattle.std.specs.Prelude.{◌≡◌, ◌*◌, ◌%◌, ◌^◌, ◌<◌, ◌≤◌, length, IfOk};
+ghost use Rattle.std.specs.Prelude.{◌≡◌, ◌*◌, ◌%◌, ◌^◌, ◌<◌, ◌≤◌, length};
 
-use std::io::{self, Stdout};
+use std::io::Stdout;
 use words::words;
 
 // d times 100000001B3 in hexadecimal digits, which is 2^40 + 435, modulo 2^64: d's low 24 bits go up by 40, its halves are multiplied by 435.
@@ -36,34 +36,42 @@ fn digest(list: &[u64]) -> u64 {
 }
 
 // Writes a number behind a space.
-fn print_behind(out: &Stdout, x: u64) -> io::Result<()> {
-    print!(out; " {x:x}")
+fn print_behind(out: &Stdout, x: u64) {
+    let _written = print!(out; " {x:x}");
 }
 
 // Writes the word for an outcome.
-fn print_outcome(out: &Stdout, outcome: verdict::Outcome) -> io::Result<()> {
+fn print_outcome(out: &Stdout, outcome: verdict::Outcome) {
     match outcome {
-        verdict::Outcome::Wait => print!(out; "wait"),
-        verdict::Outcome::AbortT => print!(out; "abort-t"),
-        verdict::Outcome::AbortOthers => print!(out; "abort-others"),
-        verdict::Outcome::NotYet => print!(out; "not-yet"),
+        verdict::Outcome::Wait => {
+            let _written = print!(out; "wait");
+        }
+        verdict::Outcome::AbortT => {
+            let _written = print!(out; "abort-t");
+        }
+        verdict::Outcome::AbortOthers => {
+            let _written = print!(out; "abort-others");
+        }
+        verdict::Outcome::NotYet => {
+            let _written = print!(out; "not-yet");
+        }
     }
 }
 
 // Writes a decision.
-fn print_decision(out: &Stdout, d: verdict::Decision) -> io::Result<()> {
+fn print_decision(out: &Stdout, d: verdict::Decision) {
     let outcome = d.outcome;
-    print_outcome(out, outcome)?;
-    print_behind(out, d.price)?;
-    print_behind(out, d.rounds as u64)?;
+    print_outcome(out, outcome);
+    print_behind(out, d.price);
+    print_behind(out, d.rounds as u64);
     print_behind(out, d.victims)
 }
 
 // Writes an answer.
-fn print_answer(out: &Stdout, answer: verdict::Answer) -> io::Result<()> {
+fn print_answer(out: &Stdout, answer: verdict::Answer) {
     match answer {
         verdict::Answer::Refused(k) => {
-            print!(out; "refused")?;
+            let _written = print!(out; "refused");
             print_behind(out, k as u64)
         }
         verdict::Answer::Decided(d) => print_decision(out, d),
@@ -71,27 +79,20 @@ fn print_answer(out: &Stdout, answer: verdict::Answer) -> io::Result<()> {
 }
 
 // Makes a call with so many work places and writes its answer and the digest.
-fn print_verdict(
-    out: &Stdout,
-    rows: &[u64],
-    costs: &[u64],
-    t: usize,
-    allowance: u32,
-    places: usize,
-) -> io::Result<()>
+fn print_verdict(out: &Stdout, rows: &[u64], costs: &[u64], t: usize, allowance: u32, places: usize)
     requires { places ≤ 6400 }
 {
     let mut work = [6510615555426900570u64; 6400];
     let answer = verdict::verdict(rows, costs, t, allowance, &mut work[..places]);
-    print_answer(out, answer)?;
+    print_answer(out, answer);
     let digest = digest(&work[..places]);
-    print!(out; " {digest:016x}\n")
+    let _written = print!(out; " {digest:016x}\n");
 }
 
-// Answers the line at a place, and gives the place behind it. The only error is that of a write, which leaves the text as it was.
-fn line(out: &Stdout, text: &[u8], at: usize) -> io::Result<usize>
+// Answers the line at a place, and gives the place behind it.
+fn line(out: &Stdout, text: &[u8], at: usize) -> usize
     requires { at < length text.now }
-    ensures { IfOk result (λ next. (at < next) × (next ≤ length text.now)) }
+    ensures { (at < result) × (result ≤ length text.now) }
 {
     let mut opening = [0u64; 5];
     let first = words(text, at, &mut opening);
@@ -99,7 +100,7 @@ fn line(out: &Stdout, text: &[u8], at: usize) -> io::Result<usize>
     let m = opening[1] as usize;
     let places = opening[2] as usize;
     if n > 80 || m > 80 || places > 6400 {
-        return Ok(text.len());
+        return text.len();
     }
     let mut rows = [0u64; 80];
     let mut costs = [0u64; 80];
@@ -107,20 +108,19 @@ fn line(out: &Stdout, text: &[u8], at: usize) -> io::Result<usize>
     let end = words(text, middle, &mut costs[..m]);
     let t = opening[3] as usize;
     let allowance = (opening[4] % 4294967296) as u32;
-    print_verdict(out, &rows[..n], &costs[..m], t, allowance, places)?;
-    Ok(end)
+    print_verdict(out, &rows[..n], &costs[..m], t, allowance, places);
+    end
 }
 
 // Answers all lines of a text.
-fn lines(out: &Stdout, text: &[u8]) -> io::Result<()> {
+fn lines(out: &Stdout, text: &[u8]) {
     let mut at = 0;
     while at < text.len() {
-        at = line(out, text, at)?;
+        at = line(out, text, at);
     }
-    Ok(())
 }
 
-fn main(rt: HostRuntime) -> io::Result<()> {
+fn main(rt: HostRuntime) {
     let mut text = [0u8; 65536];
     let n = input::read_full(&mut rt.stdin(), &mut text);
     lines(&rt.stdout(), &text[..n])
