@@ -5,6 +5,7 @@ ghost use Rattle.std.specs.Prelude.{◌≡◌, ◌≤◌, length};
 ghost use Rattle.text.specs.Line.{line_at, bad_line};
 
 // How many bytes the line at a place has, its line feed not counted.
+#[tactic(auto, using(crate::proofs::LineLaws::sought_feed, crate::proofs::LineLaws::sought_more))]
 pub fn line_length(text: &[u8], at: usize) -> usize
     requires { at ≤ length text.now }
     ensures { result ≡ length (line_at text.now at) }
