@@ -142,8 +142,8 @@ static void time_workload(unsigned index, unsigned turns)
 
 /* ---- Stack ---- */
 
-static const struct contender *chosen;
-static const struct call *chosen_call;
+static const struct contender *volatile chosen;
+static const struct call *volatile chosen_call;
 
 static uint8_t make_nothing(const struct call *call, struct lent *l)
 {

@@ -8,8 +8,8 @@
  * Linking. `./pasagumdil library` proves and builds the static library,
  * build/libentry.a. `./pasagumdil install PREFIX` installs it as
  * libpasagumdil: link with -lpasagumdil, or by `pkg-config --cflags --libs
- * pasagumdil`. It is for x86-64 Linux. It needs memset() and memcpy() from the
- * C library, and nothing else.
+ * pasagumdil`. It is for x86-64 Linux. It needs memset() from the C library,
+ * and nothing else.
  *
  * Every call is answered: the functions look at all that they are given. The
  * caller has to keep to C's own rules: each pointer leads to as many bytes as

@@ -23,7 +23,7 @@ status=0
 "$folder/header" || status=$?
 [ "$status" -eq 0 ] || fail "sentence $status of tests/header.c does not hold"
 
-# "It needs memset() and memcpy() from the C library, and nothing else."
+# "It needs memset() from the C library, and nothing else."
 library=build/libentry.a
 sed 's/^ \* *//' "$header" | tr '\n' ' ' | sed -n 's/.*It needs \([^.]*\) from the C library, and nothing else\..*/\1/p' |
     grep -o '[a-z_0-9]*()' | tr -d '()' | sort > "$folder/said"

@@ -51,8 +51,12 @@ function file_ends(    i, line, body, edge, owner) {
             if (line ~ /[{]$/) body = 1
         } else if (name != "" && line ~ /^ *[{]$/ && indent(line) == edge) {
             body = 1
-        } else if (line ~ /^impl [A-Z][A-Za-z]* [{]$/) {
-            owner = substr(line, 6, length(line) - 7) "::"
+        } else if (line ~ /^impl[ <].*[{]$/) {
+            owner = line
+            sub(/^impl(<[^>]*>)? /, "", owner)
+            sub(/^.* for /, "", owner)
+            sub(/[^A-Za-z0-9].*$/, "", owner)
+            owner = owner "::"
         } else if (line == "}") {
             owner = ""
         } else if (line ~ /^ *(pub )?const [A-Z0-9_]+: [a-z0-9]+ = [0-9]+;$/) {

@@ -3,3 +3,4 @@ pub mod Masks
 pub mod Lowest
 pub mod Collected
 pub mod Rest
+pub mod TurnLaws

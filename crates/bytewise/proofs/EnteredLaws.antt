@@ -15,8 +15,8 @@ use lib.ListN.{length, drop, replicate, length-replicate}
 use Rattle.codec.specs.Frame.{answer_bytes}
 use Rattle.lists.specs.Numbers.{numbers_of, all_bytes}
 use Rattle.verdict.specs.declared.Decision.{Decision}
-use Rattle.verdict.specs.declared.Answer.{Answer}
-use Rattle.verdict.specs.declared.Answer.TheVariants.{Decided}
+use Rattle.verdict.specs.Results.{Answer}
+use Rattle.verdict.specs.Results.Answer.{Decided}
 use Rattle.checks.specs.Refusals.{Refusal, Faultless}
 use Rattle.verdict.specs.Called.{Called}
 use Rattle.verdict.specs.Called.Called.{refuses as refused, answers as answered}

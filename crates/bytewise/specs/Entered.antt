@@ -7,7 +7,7 @@ use Rattle.std.specs.Prelude.{List, ◌++◌, ℕ, ◌*◌, length, drop, replic
 use Rattle.codec.specs.Frame.{answer_bytes}
 use Rattle.lists.specs.Numbers.{numbers_of, all_bytes}
 use Rattle.verdict.specs.declared.Decision.{Decision}
-use Rattle.verdict.specs.declared.Answer.TheVariants.{Decided}
+use Rattle.verdict.specs.Results.Answer.{Decided}
 use Rattle.verdict.specs.Called.{Called}
 use Rattle.framed.specs.Framed.{frame_of}
 use Rattle.bytewise.specs.Faults.{EntryRefusal, EntryFaultless}

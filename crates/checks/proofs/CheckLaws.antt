@@ -1,23 +1,25 @@
 -- The checks' loops: their invariants, start, turn and end.
 -- Assumes nothing.
 --
---   Apart rows k        no job below k waits for itself; apart_turn, apart_hit, apart_end
---   Added costs k s     the costs below k are in range, and s is their sum; added_start, added_turn, added_fits, added_zero, added_dear, added_end
+--   Itself, Apart p     job p.0 with the row p.1 waits for itself, or does not; looped_cases: what a search of the jobs for one says
+--   Added costs k s     the costs below k are in range, and s is their sum; added_start, added_turn, added_fits, added_zero, added_dear, added_positive, added_end
 --   summed_small        what the sum of all costs is at most
 use mathlib.Core.Path.{◌≡◌, refl, sym, ap, ◌∙◌, subst}
-use mathlib.Core.Logic.{inl, inr}
-use mathlib.Core.Bool.{true, false}
+use mathlib.Core.Logic.{◌≢◌, inl, inr}
+use mathlib.Core.Bool.{Bool, true, false}
 use mathlib.Core.List.{List}
 use Prim.Native.Nat.{ℕ, ◌+◌, ◌*◌, ◌/◌, ◌%◌, ◌^◌, ◌<◌, ◌≤◌, zero-le}
 use native.Mathlib.Omega.{arith}
 use native.Mathlib.Numerals.{suc-eq-add-one}
 use borrow.Author.Count.{below_more}
-use lib.Dec.{T}
 use lib.ListN.{length, get_or}
+use Rattle.std.proofs.Common.{zero-add}
+use Rattle.std.specs.Bool.{MatchBool}
+use Rattle.std.specs.List.{HoldsAt, AllWithin, enumerate_from}
+use Rattle.std.proofs.lemmas.List.FromFn.{get_or-enumerate_from, length-enumerate_from}
 use Rattle.bits.specs.Mask.{bit}
 use Rattle.sums.specs.Sum.{sum}
-use Rattle.sums.proofs.SumLaws.{sum_mono, sum_const}
-use Rattle.graph.specs.Waits.{waits}
+use Rattle.sums.proofs.SumLaws.{sum_mono, sum_const, sum_term}
 use Rattle.graph.proofs.WaitLaws.{waits_has, has_waits, waits_below}
 use Rattle.network.specs.Costs.{cost_at}
 use Rattle.checks.specs.Checks.{Looped, Summed}
@@ -26,19 +28,31 @@ use Rattle.checks.specs.Checks.Summed.{strayed, whole}
 
 -- ---- no job waits for itself
 
-abbrev pub Apart : List ℕ → ℕ → Type 0
-Apart rows k = (j : ℕ) → j < k → T (waits rows j j) → ⊥
+-- a job with its row waits for itself
+abbrev pub Itself : ℕ × ℕ → Type 0
+Itself p = p.1 / 2 ^ p.0 % 2 ≡ 1
 
-pub apart_turn : (rows : List ℕ) (k : ℕ) → Apart rows k → (get_or rows k 0 / 2 ^ k % 2 ≡ 1 → ⊥) → Apart rows (k + 1)
+abbrev pub Apart : ℕ × ℕ → Type 0
+Apart p = p.1 / 2 ^ p.0 % 2 ≢ 1
+
+-- the jobs with their rows
+abbrev pub numbered : List ℕ → List (ℕ × ℕ)
+numbered rows = enumerate_from 0 rows
+
+job_with_row : (rows : List ℕ) (j : ℕ) → j < length rows → get_or (numbered rows) j (0, 0) ≡ (j, get_or rows j 0)
+job_with_row rows j l = get_or-enumerate_from 0 rows j (0, 0) l ∙ ap (λ (k : ℕ). (k, get_or rows j 0)) (zero-add j)
+
+pub looped_cases : (rows : List ℕ) (b : Bool)
+    → MatchBool b ((k : ℕ) × (k < length (numbered rows)) × HoldsAt Itself (numbered rows) k) (AllWithin Apart (numbered rows) 0 (length (numbered rows)))
+    → Looped rows b
 unfolding bit
-apart_turn rows k A ne = below_more (λ (j : ℕ). T (waits rows j j) → ⊥) k A (λ t. ne (waits_has rows k k t))
-
-pub apart_hit : (rows : List ℕ) (k : ℕ) → get_or rows k 0 / 2 ^ k % 2 ≡ 1 → Looped rows true
-unfolding bit
-apart_hit rows k e = some k (has_waits rows k k e)
-
-pub apart_end : (rows : List ℕ) (k : ℕ) → Apart rows k → length rows ≤ k → Looped rows false
-apart_end rows k A l = none (λ j t. A j (omega (arith, waits_below rows j j t)) t)
+looped_cases rows true h =
+    let l : h.0 < length rows = omega (arith, length-enumerate_from 0 rows) in
+    some h.0 (has_waits rows h.0 h.0 (subst Itself (job_with_row rows h.0 l) (h.2 (0, 0))))
+looped_cases rows false h = none (λ j t.
+    let l = waits_below rows j j t in
+    let m : j < length (numbered rows) = omega (arith, length-enumerate_from 0 rows) in
+    subst Apart (job_with_row rows j l) (h j (0, 0) zero-le m) (waits_has rows j j t))
 
 -- ---- the sum of costs in range
 
@@ -74,6 +88,12 @@ added_zero costs k l e = strayed k l (inl e)
 pub added_dear : (costs : List ℕ) (k : ℕ) → k < length costs → 2 ^ 42 < get_or costs k 0 → Summed costs 0
 unfolding cost_at
 added_dear costs k l e = strayed k l (inr e)
+
+-- the sum of some costs in range is above 0
+pub added_positive : (costs : List ℕ) (k s : ℕ) → Added costs k s → length costs ≤ k → 0 < length costs → 0 < s
+added_positive costs k s A l nonempty =
+    let m : 0 < k = omega arith in
+    omega (arith, (A.fit 0 m).0, sum_term k (cost_at costs) 0 m, A.total)
 
 pub added_end : (costs : List ℕ) (k s : ℕ) → Added costs k s → length costs ≤ k → Summed costs s
 added_end costs k s A l =

@@ -5,7 +5,8 @@
 --   refusal_faultless    none is due where there is no fault
 --   fault_range          refusals have the numbers 1 to 8
 --   due_refused, due_none   what a number says that is due, above 0 and 0
---   due_unique           two results of `refusal` are equal
+--   due_unique           two numbers that are due are equal
+--   due_settled          so two results of `refusal` are equal
 --   faultless-..         what an input without faults is, fault by fault
 use mathlib.Core.Path.{◌≡◌, refl}
 use mathlib.Core.Logic.{◌≢◌}
@@ -15,6 +16,10 @@ use native.Mathlib.Omega.{arith}
 use native.Mathlib.Decide.{ℕ_discrete, dec_lt}
 use lib.Dec.{T}
 use lib.ListN.{length}
+use Rattle.std.specs.Prelude.{Result}
+use Rattle.reasons.specs.declared.Reason.{Reason}
+use Rattle.reasons.specs.Numbers.{refusal_number}
+use Rattle.reasons.proofs.NumberLaws.{refusal_one}
 use Rattle.sums.specs.Sum.{sum}
 use Rattle.graph.specs.Waits.{waits, Jobs}
 use Rattle.network.specs.Costs.{cost_at}
@@ -62,6 +67,9 @@ module _ (rows costs : List ℕ) (τ work : ℕ) where
   due_unique j k (refused l a) (none f) = absurd (f l a.fault)
   due_unique j k (none f) (refused m b) = absurd (f m b.fault)
   due_unique j k (none f) (none g) = refl
+
+  pub due_settled : (a b : Result (Unit {0}) Reason) → Due rows costs τ work (refusal_number a) → Due rows costs τ work (refusal_number b) → a ≡ b
+  due_settled a b p q = refusal_one a b (due_unique (refusal_number a) (refusal_number b) p q)
 
   -- ---- what an input without faults is
 

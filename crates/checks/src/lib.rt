@@ -1,82 +1,73 @@
 // The checks of a verdict call: the first of refusals 1 to 8 that is due.
 #![tactic(auto)]
 
-ghost use Rattle.std.specs.Prelude.{◌≤◌, length};
-ghost use Rattle.checks.specs.Checks.{Looped, Summed};
+ghost use Rattle.std.specs.Prelude.{◌<◌, ◌≤◌, length};
+ghost use Rattle.reasons.specs.Numbers.{refusal_number};
+ghost use Rattle.checks.specs.Checks.{Looped, SummedAs};
 ghost use Rattle.checks.specs.Refusals.{Due};
+
+use calls::Call;
+use reasons::Reason;
 
 // Whether a job waits for itself.
 fn waits_for_itself(rows: &[u64]) -> bool
     requires { length rows.now ≤ 64 }
     ensures { Looped rows.now result }
 {
-    let mut u = 0;
-    while u < rows.len() {
-        if (rows[u] >> u) % 2 == 1 {
-            return true;
-        }
-        u += 1;
-    }
-    false
+    rows.iter().enumerate().any(|(u, row)| (*row >> u) % 2 == 1)
 }
 
-const HIGHEST_COST: u64 = 4398046511104;
+const HIGHEST_COST: u64 = 1 << 42;
 
-// The sum of the costs, or 0 where one of them is 0 or above 2^42.
-fn sum_in_range(costs: &[u64]) -> u64
+// The sum of the costs, or none where one of them is 0 or above 2^42.
+fn sum_in_range(costs: &[u64]) -> Option<u64>
     requires { length costs.now ≤ 64 }
-    ensures { Summed costs.now result }
+    ensures { SummedAs costs.now result }
 {
-    let mut total = 0u64;
-    let mut u = 0;
-    while u < costs.len() {
-        if costs[u] == 0 {
-            return 0;
+    let mut total = 0;
+    for &cost in costs {
+        if cost == 0 || HIGHEST_COST < cost {
+            return None;
         }
-        if HIGHEST_COST < costs[u] {
-            return 0;
-        }
-        total += costs[u];
-        u += 1;
+        total += cost;
     }
-    total
+    Some(total)
 }
 
-const HIGHEST_SUM: u64 = 9223372036854775808;
+const HIGHEST_SUM: u64 = 1 << 63;
 
-// The number of the refusal that is due to an input with so many places of work, or 0.
+// The first of refusals 1 to 8 that is due to a call with so many places of work.
 #[tactic(auto, using(crate::proofs::CheckedLaws::due_crowded))]
-pub fn refusal(rows: &[u64], costs: &[u64], t: usize, places: usize) -> u8
-    ensures { Due rows.now costs.now t places result }
+pub fn refusal(call: Call<'_, u64>, places: usize) -> Result<(), Reason>
+    ensures { Due call.entry.rows.now call.entry.costs.now call.entry.t places (refusal_number result) }
 {
-    let n = rows.len();
+    let n = call.rows.len();
     if n == 0 {
-        return 1;
+        return Err(Reason::BadRows);
     }
     if 64 < n {
-        return 1;
+        return Err(Reason::BadRows);
     }
-    if costs.len() != n {
-        return 2;
+    if call.costs.len() != n {
+        return Err(Reason::BadCosts);
     }
     if places < n * n {
-        return 3;
+        return Err(Reason::TooFewPlaces);
     }
-    if !graph::rows_known(rows) {
-        return 4;
+    if !graph::rows_known(call.rows) {
+        return Err(Reason::StrayJob);
     }
-    if waits_for_itself(rows) {
-        return 5;
+    if waits_for_itself(call.rows) {
+        return Err(Reason::WaitsForItself);
     }
-    if n <= t {
-        return 6;
+    if n <= call.t {
+        return Err(Reason::NoSuchJob);
     }
-    let sum = sum_in_range(costs);
-    if sum == 0 {
-        return 7;
-    }
+    let Some(sum) = sum_in_range(call.costs) else {
+        return Err(Reason::BadCost);
+    };
     if HIGHEST_SUM < sum + 1 {
-        return 8;
+        return Err(Reason::CostsTooHigh);
     }
-    0
+    Ok(())
 }

@@ -7,7 +7,7 @@ use mathlib.Core.List.{List, [], ◌∷◌, ◌++◌}
 use Prim.Native.Nat.{ℕ, ◌+◌, ◌/◌, ◌%◌, ◌<◌, ◌≤◌}
 use native.Mathlib.Nat.{div-one}
 use native.Mathlib.Omega.{arith}
-use lib.ListN.{length, take, drop, set, length-append}
+use lib.ListN.{length, take, drop, set, length-append, length-set}
 use lib.Seq.{length-take-le}
 use Rattle.digits.proofs.SpellLaws.{part_next}
 use Rattle.frames.specs.declared.Answer.{Answer}
@@ -24,22 +24,30 @@ byte_one : (x : ℕ) → x < 256 → bytes_of 1 x ≡ x ∷ []
 unfolding bytes_of
 byte_one x l = let e : x / 1 % 256 ≡ x = rw (div-one x) (omega arith) in ap (λ (z : ℕ). z ∷ []) e
 
--- two bytes written over the first two
-front_two : (d p q v rest : List ℕ) (o : ℕ) → 2 ≤ length d → o < 256 → set (set (take 2 d ++ p ++ q ++ v ++ rest) 0 3) 1 o ≡ bytes_of 1 3 ++ bytes_of 1 o ++ p ++ q ++ v ++ rest
-front_two [] p q v rest o room small = absurd (omega arith)
-front_two (x ∷ []) p q v rest o room small = absurd (omega arith)
-front_two (x ∷ y ∷ r) p q v rest o room small = rw (byte_one 3 (omega arith), byte_one o small) refl
+-- the first two bytes
+front_two : (d : List ℕ) (o : ℕ) → 2 ≤ length d → o < 256 → take 2 (set (set d 0 3) 1 o) ≡ bytes_of 1 3 ++ bytes_of 1 o
+front_two [] o room small = absurd (omega arith)
+front_two (x ∷ []) o room small = absurd (omega arith)
+front_two (x ∷ y ∷ r) o room small = rw (byte_one 3 (omega arith), byte_one o small) refl
 
-pub answer_bytes_lem : (d l₁ l₂ l₃ : List ℕ) (a : Answer) → 22 ≤ length d → a.outcome < 256
-    → l₁ ≡ take 2 d ++ bytes_of 8 a.price ++ drop 10 d
+behind_two : (d : List ℕ) (o : ℕ) → 2 ≤ length d → drop 22 (set (set d 0 3) 1 o) ≡ drop 22 d
+behind_two [] o room = absurd (omega arith)
+behind_two (x ∷ []) o room = absurd (omega arith)
+behind_two (x ∷ y ∷ r) o room = refl
+
+pub answer_bytes_lem : (d d' l₁ l₂ l₃ : List ℕ) (a : Answer) → 22 ≤ length d → a.outcome < 256
+    → d' ≡ set (set d 0 3) 1 a.outcome
+    → l₁ ≡ take 2 d' ++ bytes_of 8 a.price ++ drop 10 d'
     → l₂ ≡ take 10 l₁ ++ bytes_of 4 a.rounds ++ drop 14 l₁
     → l₃ ≡ take 14 l₂ ++ bytes_of 8 a.victims ++ drop 22 l₂
-    → set (set l₃ 0 3) 1 a.outcome ≡ answer_bytes a ++ drop 22 d
+    → l₃ ≡ answer_bytes a ++ drop 22 d
 unfolding answer_bytes
-answer_bytes_lem d l₁ l₂ l₃ a room small e₁ e₂ e₃ =
-    let n₁ = length-take-le 2 d (omega arith) in
-    let n₂ = longer (take 2 d) 2 8 a.price n₁ in
-    let n₃ = longer (take 2 d ++ bytes_of 8 a.price) 10 4 a.rounds n₂ in
-    let f₂ = part_next d (take 2 d ++ bytes_of 8 a.price) (bytes_of 4 a.rounds) l₁ l₂ 10 4 n₂ e₁ e₂ in
-    let f₃ = part_next d (take 2 d ++ bytes_of 8 a.price ++ bytes_of 4 a.rounds) (bytes_of 8 a.victims) l₂ l₃ 14 8 n₃ f₂ e₃ in
-    ap (λ (l : List ℕ). set (set l 0 3) 1 a.outcome) f₃ ∙ front_two d (bytes_of 8 a.price) (bytes_of 4 a.rounds) (bytes_of 8 a.victims) (drop 22 d) a.outcome (omega arith) small
+answer_bytes_lem d d' l₁ l₂ l₃ a room small e₀ e₁ e₂ e₃ =
+    let front : take 2 d' ≡ bytes_of 1 3 ++ bytes_of 1 a.outcome = ap (λ (l : List ℕ). take 2 l) e₀ ∙ front_two d a.outcome (omega arith) small in
+    let behind : drop 22 d' ≡ drop 22 d = ap (λ (l : List ℕ). drop 22 l) e₀ ∙ behind_two d a.outcome (omega arith) in
+    let n₁ : length (take 2 d') ≡ 2 = rw e₀ (length-take-le 2 _ (simp length-set (omega arith))) in
+    let n₂ = longer (take 2 d') 2 8 a.price n₁ in
+    let n₃ = longer (take 2 d' ++ bytes_of 8 a.price) 10 4 a.rounds n₂ in
+    let f₂ = part_next d' (take 2 d' ++ bytes_of 8 a.price) (bytes_of 4 a.rounds) l₁ l₂ 10 4 n₂ e₁ e₂ in
+    let f₃ = part_next d' (take 2 d' ++ bytes_of 8 a.price ++ bytes_of 4 a.rounds) (bytes_of 8 a.victims) l₂ l₃ 14 8 n₃ f₂ e₃ in
+    f₃ ∙ rw (front, behind) refl

@@ -1,12 +1,48 @@
 // One line of a text: the frame that is due there, or none.
 //
 // First on text and number side by side (`frame_fault`, `further_fault`), then by the reader, which carries the lent
-// text together with its place in it. `frame_at` and `further_at` go through the reader and take text and number: every
-// line that a caller has read is read by the reader.
+// text together with its place in it. Every line that a caller has read is read by the reader.
 #![tactic(auto)]
 
 ghost use Rattle.std.specs.Prelude.{◌≡◌};
+ghost use Rattle.reasons.specs.Numbers.{refusal_number};
 ghost use Rattle.cursor.specs.Frame.{frame_fault, further_fault};
+
+use reasons::Reason;
+
+// Refuses the line at a place, where it is not the frame of this kind and this many digits.
+// Text and place stand side by side here as in `further_fault`: document 01 asks for the reader over functions on slice and number.
+#[tactic(auto, using(crate::proofs::FrameLaws::frame_ways))]
+fn frame_fault(text: &[u8], at: usize, kind: u8, due: usize) -> Result<(), Reason>
+    ensures { refusal_number result ≡ frame_fault text.now at kind due }
+{
+    if text.len() <= at {
+        return Err(Reason::WrongFrame);
+    }
+    let digits = text::line_length(text, at);
+    if text::bad_line(text, at, digits) {
+        return Err(Reason::BadLine);
+    }
+    if digits != due || digits::byte_at(text, at) != kind {
+        return Err(Reason::WrongFrame);
+    }
+    Ok(())
+}
+
+// Refuses a line at a place.
+#[tactic(auto, using(crate::proofs::FrameLaws::further_ways))]
+fn further_fault(text: &[u8], at: usize) -> Result<(), Reason>
+    ensures { refusal_number result ≡ further_fault text.now at }
+{
+    if text.len() <= at {
+        return Ok(());
+    }
+    let digits = text::line_length(text, at);
+    if text::bad_line(text, at, digits) {
+        return Err(Reason::BadLine);
+    }
+    Err(Reason::WrongFrame)
+}
 
 // The frame reader: the lent text together with its place in it.
 #[derive(Clone, Copy)]
@@ -15,71 +51,25 @@ pub struct Reader<'a> {
     pub at: usize,
 }
 
-// 10 or 11, where the line at a place is not the frame of this kind and this many digits; else 0.
-fn frame_fault(text: &[u8], at: usize, kind: u8, due: usize) -> u8
-    ensures { result ≡ frame_fault text.now at kind due }
-{
-    if text.len() <= at {
-        return 11;
+impl<'a> Reader<'a> {
+    // A reader at a place of a text.
+    pub fn new(text: &'a [u8], at: usize) -> Self
+        ensures { (result.text ≡ text.entry) × (result.at ≡ at) }
+    {
+        Self { text, at }
     }
-    let digits = text::line_length(text, at);
-    if text::bad_line(text, at, digits) {
-        return 10;
+
+    // Refuses the line at the reader's place, where it is not the frame of this kind and this many digits.
+    pub fn frame(self, kind: u8, due: usize) -> Result<(), Reason>
+        ensures { refusal_number result ≡ frame_fault self.entry.text.now self.entry.at kind due }
+    {
+        frame_fault(self.text, self.at, kind, due)
     }
-    if digits != due {
-        return 11;
+
+    // Refuses a line at the reader's place.
+    pub fn further(self) -> Result<(), Reason>
+        ensures { refusal_number result ≡ further_fault self.entry.text.now self.entry.at }
+    {
+        further_fault(self.text, self.at)
     }
-    if digits::byte_at(text, at) != kind {
-        return 11;
-    }
-    0
-}
-
-// 10 or 11, where there is a line at a place; else 0.
-fn further_fault(text: &[u8], at: usize) -> u8
-    ensures { result ≡ further_fault text.now at }
-{
-    if text.len() <= at {
-        return 0;
-    }
-    let digits = text::line_length(text, at);
-    if text::bad_line(text, at, digits) {
-        return 10;
-    }
-    11
-}
-
-// A reader at a place.
-pub fn place<'a>(text: &'a [u8], at: usize) -> Reader<'a>
-    ensures { (result.text ≡ text.entry) × (result.at ≡ at) }
-{
-    Reader { text, at }
-}
-
-// 10 or 11, where the line at the reader's place is not the frame of this kind and this many digits; else 0.
-pub fn frame<'a>(r: Reader<'a>, kind: u8, due: usize) -> u8
-    ensures { result ≡ frame_fault r.entry.text.now r.entry.at kind due }
-{
-    frame_fault(r.text, r.at, kind, due)
-}
-
-// 10 or 11, where there is a line at the reader's place; else 0.
-pub fn further<'a>(r: Reader<'a>) -> u8
-    ensures { result ≡ further_fault r.entry.text.now r.entry.at }
-{
-    further_fault(r.text, r.at)
-}
-
-// What `frame` gives, of a reader at a place of the text.
-pub fn frame_at(text: &[u8], at: usize, kind: u8, due: usize) -> u8
-    ensures { result ≡ frame_fault text.now at kind due }
-{
-    frame(place(text, at), kind, due)
-}
-
-// What `further` gives, of a reader at a place of the text.
-pub fn further_at(text: &[u8], at: usize) -> u8
-    ensures { result ≡ further_fault text.now at }
-{
-    further(place(text, at))
 }

@@ -19,8 +19,8 @@ use Rattle.network.specs.Costs.{cost_at}
 use Rattle.checks.specs.Refusals.{Refusal, Faultless}
 use Rattle.checks.proofs.RefusalLaws.{faultless_job}
 use Rattle.verdict.specs.declared.Decision.{Decision}
-use Rattle.verdict.specs.declared.Answer.{Answer}
-use Rattle.verdict.specs.declared.Answer.TheVariants.{Refused, Decided}
+use Rattle.verdict.specs.Results.{Answer}
+use Rattle.verdict.specs.Results.Answer.{Refused, Decided}
 use Rattle.verdict.specs.Answers.{outcome_number}
 use Rattle.verdict.specs.Called.{Called}
 use Rattle.verdict.specs.Called.Called.{refuses, answers}

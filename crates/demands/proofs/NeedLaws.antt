@@ -26,8 +26,8 @@ use Rattle.network.proofs.Tally.{capacity_counted}
 use Rattle.checks.specs.Refusals.{Faultless}
 use Rattle.checks.proofs.RefusalLaws.{faultless_job}
 use Rattle.verdict.specs.declared.Decision.{Decision}
-use Rattle.verdict.specs.declared.Answer.{Answer}
-use Rattle.verdict.specs.declared.Answer.TheVariants.{Decided}
+use Rattle.verdict.specs.Results.{Answer}
+use Rattle.verdict.specs.Results.Answer.{Decided}
 use Rattle.verdict.specs.Answers.{outcome_number, After, Verdict}
 use Rattle.verdict.specs.Answers.Verdict.{stays, itself, others, unfinished}
 use Rattle.verdict.specs.Called.{Called}

@@ -12,7 +12,7 @@ use Rattle.walks.proofs.Distance.{patched_exists}
 use Rattle.frames.specs.Fields.{header_at}
 use Rattle.refusals.specs.Refused.{refusal_of}
 use Rattle.refusals.proofs.UnrefusedLaws.{unrefused_any, unrefused_whole}
-use Rattle.reader.specs.declared.Snapshot.{Snapshot}
+use Rattle.reader.specs.Reading.{Reading as Snapshot}
 use Rattle.reader.specs.Snapshots.{RowOf, CostOf, Filled, IsRead}
 use Rattle.reply.proofs.TotalLaws.{given_exists}
 

@@ -26,7 +26,7 @@ use Rattle.network.proofs.BestLaws.{best_unique, best_one}
 use Rattle.checks.specs.Refusals.{Faultless}
 use Rattle.checks.proofs.RefusalLaws.{faultless_job, faultless_apart, faultless_positive}
 use Rattle.verdict.specs.declared.Decision.{Decision}
-use Rattle.verdict.specs.declared.Answer.TheVariants.{Decided}
+use Rattle.verdict.specs.Results.Answer.{Decided}
 use Rattle.verdict.specs.Answers.{outcome_number, Verdict}
 use Rattle.verdict.specs.Answers.Verdict.{stays, itself, others, unfinished}
 use Rattle.verdict.specs.Called.{Called}

@@ -20,15 +20,15 @@ use Rattle.network.specs.Costs.{cost_at}
 use Rattle.network.specs.Sets.{Passes, Opens, Best, price}
 use Rattle.checks.specs.Refusals.{Refusal, Faultless}
 use Rattle.verdict.specs.declared.Decision.{Decision}
-use Rattle.verdict.specs.declared.Answer.{Answer}
-use Rattle.verdict.specs.declared.Answer.TheVariants.{Refused, Decided}
+use Rattle.verdict.specs.Results.{Answer}
+use Rattle.verdict.specs.Results.Answer.{Refused, Decided}
 use Rattle.verdict.specs.Answers.{outcome_number, After, Victims}
 use Rattle.verdict.specs.Called.{Called}
 use Rattle.ticks.specs.Costs.{age_of}
 use Rattle.frames.specs.Records.{answered}
 use Rattle.frames.specs.Fields.{header_at}
 use Rattle.refusals.specs.Refused.{refusal_of}
-use Rattle.reader.specs.declared.Snapshot.{Snapshot}
+use Rattle.reader.specs.Reading.{Reading as Snapshot}
 use Rattle.reader.specs.Snapshots.{IsRead}
 use Rattle.lines.specs.Lines.{answer_line, refusal_line}
 use Rattle.reply.specs.Replied.{Given, LineOf, Replied}

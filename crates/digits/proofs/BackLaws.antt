@@ -8,27 +8,19 @@
 use mathlib.Core.Path.{◌≡◌, refl, sym, ap, ◌∙◌}
 use mathlib.Core.Bool.{true}
 use mathlib.Core.List.{List}
-use Prim.Native.Nat.{ℕ, zero, suc, ◌+◌, ◌*◌, ◌-◌, ◌/◌, ◌%◌, ◌^◌, ◌<◌, ◌≤◌}
+use Prim.Native.Nat.{ℕ, zero, suc, ◌+◌, ◌*◌, ◌-◌, ◌/◌, ◌%◌, ◌^◌, ◌<◌}
 use native.Mathlib.Nat.{zero-add, pow-suc, div-div-eq-div-mul, div-one, mod-lt, one-le-pow}
-use native.Mathlib.Decide.{dec_lt}
+use Rattle.std.proofs.lemmas.Bool.Decides.{nat_tests}
 use native.Mathlib.Omega.{arith}
 use lib.Arith.{mod-mul}
 use lib.Dec.{lit<}
 use lib.ListN.{get_or}
 use Rattle.digits.specs.Digits.{is_digit, digit, byte_at, number}
 use Rattle.digits.specs.Spell.{spelt, spell}
-use Rattle.digits.proofs.DigitLaws.{decimal, letter}
-use Rattle.digits.proofs.SpellLaws.{spelt_low, spelt_high}
 
 digit_spelt : (d : ℕ) → d < 16 → (is_digit (spelt d) ≡ true) × (digit (spelt d) ≡ d)
-digit_spelt d l = go (dec_lt d 10)
-  where
-    go : Dec (d < 10) → (is_digit (spelt d) ≡ true) × (digit (spelt d) ≡ d)
-    go (yes a) = let q = decimal (48 + d) (omega arith) (omega arith) in rw (← spelt_low d a) (q.0, q.1 ∙ let e : 48 + d - 48 ≡ d = omega arith in e)
-    go (no a) =
-        let b : 10 ≤ d = omega arith in
-        let q = letter (55 + d) (omega arith) (omega arith) (omega arith) (omega arith) in
-        rw (← spelt_high d b) (q.0, q.1 ∙ let e : 55 + d - 55 ≡ d = omega arith in e)
+unfolding is_digit digit spelt
+digit_spelt d l = (grind (arith, nat_tests), grind (arith, nat_tests))
 
 pub spell_at : (k x i : ℕ) → i < k → get_or (spell k x) i 0 ≡ spelt (x / 16 ^ (k - suc i) % 16)
 unfolding spell

@@ -1,106 +1,87 @@
 // Digits of hexadecimal text by their places: what they are worth, the bytes and numbers that they spell, digits written.
 //
-// Every function that reads is total on the text: behind its end stands 0, and a byte that is no digit is worth 0.
+// Every function that reads a text is total on it: behind its end stands 0, and a byte that is no digit is worth 0.
 #![tactic(auto)]
 
-ghost use Rattle.std.specs.Prelude.{◌≡◌, ◌+◌, ◌^◌, ◌≤◌, ◌<◌, ◌++◌, get_or, length, take, drop};
+ghost use Rattle.std.specs.Prelude.{
+  ◌≡◌,
+  ◌+◌,
+  ◌*◌,
+  ◌^◌,
+  ◌≤◌,
+  ◌<◌,
+  ◌++◌,
+  if◌then◌else◌,
+  get_or,
+  length,
+  take,
+  drop,
+};
 ghost use Rattle.digits.specs.Digits.{is_digit, digit, byte_at, number};
 ghost use Rattle.digits.specs.Spell.{spelt, spell};
 
-// Whether a byte is a digit, 0-9 or A-F.
-pub fn is_digit(c: u8) -> bool
-    ensures { result ≡ is_digit c }
+// What a byte is worth as a digit, 0-9 or A-F; None where it is none.
+#[tactic(auto, using(std::proofs::lemmas::Bool::Decides::nat_tests), unfolding(crate::specs::Digits::is_digit, crate::specs::Digits::digit))]
+pub fn digit(c: u8) -> Option<u8>
+    ensures { result ≡ (if is_digit c then Some (digit c) else None) }
 {
-    if c < 48 {
-        return false;
+    match c {
+        b'0'..=b'9' => Some(c - b'0'),
+        b'A'..=b'F' => Some(c - b'A' + 10),
+        _ => None,
     }
-    if c <= 57 {
-        return true;
-    }
-    if c < 65 {
-        return false;
-    }
-    if c <= 70 {
-        return true;
-    }
-    false
 }
 
-// What a digit is worth, 0 for any other byte.
-pub fn digit_value(c: u8) -> u8
-    ensures { result ≡ digit c }
+// What the byte at a place of the text is worth, 0 behind its end.
+#[tactic(auto, using(std::proofs::lemmas::Bool::Decides::nat_tests), unfolding(crate::specs::Digits::is_digit, crate::specs::Digits::digit))]
+fn digit_at(text: &[u8], at: usize) -> u8
+    ensures value { result ≡ digit (get_or text.now at 0) }
+    ensures bound { result < 16 }
 {
-    if c < 48 {
-        return 0;
-    }
-    if c <= 57 {
-        return c - 48;
-    }
-    if c < 65 {
-        return 0;
-    }
-    if c <= 70 {
-        return c - 55;
-    }
-    0
-}
-
-// The byte of the text at a place, 0 behind its end.
-fn char_at(text: &[u8], at: usize) -> u8
-    ensures { result ≡ get_or text.now at 0 }
-{
-    if at < text.len() {
-        return text[at];
-    }
-    0
+    text.get(at).and_then(|c| digit(*c)).unwrap_or(0)
 }
 
 // The byte that is spelt at a place.
+#[tactic(auto, unfolding(crate::specs::Digits::byte_at))]
 pub fn byte_at(text: &[u8], at: usize) -> u8
     requires { at + 2 < 2 ^ 64 }
     ensures { result ≡ byte_at text.now at }
 {
-    digit_value(char_at(text, at)) * 16 + digit_value(char_at(text, at + 1))
+    digit_at(text, at) * 16 + digit_at(text, at + 1)
 }
 
-// The number of two bytes at a place.
-pub fn number2(text: &[u8], at: usize) -> u16
-    requires { at + 4 < 2 ^ 64 }
-    ensures { result ≡ number text.now at 2 }
+// The number of so many bytes at a place.
+#[tactic(auto, using(crate::proofs::DigitLaws::read_none))]
+pub fn number<const BYTES: usize>(text: &[u8], at: usize) -> u64
+    requires bytes { BYTES ≤ 8 }
+    requires place { at + 2 * BYTES < 2 ^ 64 }
+    ensures value { result ≡ number text.now at BYTES }
+    ensures bound { result < 256 ^ BYTES }
 {
-    let high = byte_at(text, at) as u16;
-    high * 256 + byte_at(text, at + 2) as u16
-}
-
-// The number of four bytes at a place.
-pub fn number4(text: &[u8], at: usize) -> u32
-    requires { at + 8 < 2 ^ 64 }
-    ensures { result ≡ number text.now at 4 }
-{
-    let high = number2(text, at) as u32;
-    high * 65536 + number2(text, at + 4) as u32
+    let mut value = 0;
+    for k in 0..BYTES {
+        value = value * 256 + u64::from(byte_at(text, at + 2 * k));
+    }
+    value
 }
 
 // The digit worth d.
+#[tactic(auto, using(std::proofs::lemmas::Bool::Decides::nat_tests), unfolding(crate::specs::Spell::spelt))]
 fn digit_of(d: u8) -> u8
     requires { d < 16 }
     ensures { result ≡ spelt d }
 {
-    if d < 10 {
-        return 48 + d;
-    }
-    55 + d
+    if d < 10 { b'0' + d } else { b'A' + d - 10 }
 }
 
 // Writes the last k digits of x, from a place on.
+#[tactic(auto, using(crate::proofs::SpellLaws::spelling_none, crate::proofs::SpellLaws::spelling_end))]
 pub fn put_digits(out: &mut [u8], at: usize, k: usize, x: u64)
     requires { at + k ≤ length out.old }
     ensures { out.new ≡ take at out.old ++ spell k x ++ drop (at + k) out.old }
 {
     let mut rest = x;
-    let mut i = k;
-    while 0 < i {
-        i -= 1;
+    for i in (0..k).rev() {
         out[at + i] = digit_of((rest % 16) as u8);
         rest /= 16;
     }

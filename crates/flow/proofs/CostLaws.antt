@@ -3,6 +3,7 @@
 --
 --   Totalling costs x rest sum    sum and the costs of the jobs that are still in rest add up to S
 --   total_start, total_job, total_fits, total_turn, total_end
+--   turn_lowest                   a turn takes the lowest job and leaves the others
 use mathlib.Core.Path.{◌≡◌, refl, ap}
 use mathlib.Core.Logic.{◌⊎◌, inl, inr, ◌≢◌}
 use mathlib.Core.List.{List}
@@ -11,9 +12,12 @@ use native.Mathlib.Omega.{arith}
 use lib.Bits.{bit_and}
 use lib.Count.{count_trailing_zeros}
 use lib.ListN.{length, get_or}
+use Rattle.std.specs.Prelude.{Some}
 use Rattle.bits.specs.Mask.{Has, has}
+use Rattle.bits.specs.Members.{Turn}
 use Rattle.bits.proofs.Masks.{has_test, test_has}
 use Rattle.bits.proofs.Rest.{Rest, rest_start, rest_end, rest_low, rest_here, rest_next, rest_gone, rest_cases}
+use Rattle.bits.proofs.TurnLaws.{turn_taken, turn_unique}
 use Rattle.sums.specs.Sum.{gate}
 use Rattle.sums.proofs.TestLaws.{T_eq}
 use Rattle.sums.proofs.SumLaws.{gate_on, gate_off, sum_point, sum_zero}
@@ -28,6 +32,13 @@ pub record Totalling (costs : List ℕ) (x rest acc : ℕ) : Type 0 where
 
 pub total_start : (costs : List ℕ) (x : ℕ) → Costed costs x → x < 2 ^ 64 → Totalling costs x x 0
 total_start costs x C l = record { given = C; rest_part = rest_start x l; so_far = omega arith }
+
+-- a turn takes the lowest job and leaves the others
+pub turn_lowest : (x u others : ℕ) → x < 2 ^ 64 → Turn x (Some u) others → (x ≢ 0) × (u ≡ count_trailing_zeros 64 x) × (others ≡ bit_and x (x - 1))
+turn_lowest x u others l t =
+    let some : x ≢ 0 = λ e. rest_end x u e t.0 in
+    let one : (Some u ≡ Some (count_trailing_zeros 64 x)) × (others ≡ bit_and x (x - 1)) = turn_unique x _ _ _ _ t (turn_taken x l some) in
+    (some, (let e = one.0 in cc), one.1)
 
 module _ (costs : List ℕ) (x rest acc : ℕ) (A : Totalling costs x rest acc) where
   module _ (some : rest ≢ 0) where

@@ -8,8 +8,8 @@
 --   descend_back, descend_turn
 --                         a node that leads nowhere leaves its level, one level up, where the nodes are on the other side
 --   descend_less          the levels have then fallen by more than the way has
---   descend_none          none is found
---   descend_found         the sink is reached: the way is the path that a round takes
+--   descend_some, descend_found
+--                         the sink is reached, by one step or more: the way is the path that a round takes
 use mathlib.Core.Path.{◌≡◌, refl, sym, ap, ◌∙◌, subst}
 use mathlib.Core.Logic.{◌⊎◌, inl, inr, ◌≢◌}
 use mathlib.Core.List.{List, [], ◌∷◌, ◌++◌}
@@ -129,9 +129,6 @@ module _ (S : List ℕ) (s t : ℕ) (L qs ps : List ℕ) (k a : ℕ) (D : Descen
       go (no z) = omega (arith, D.within)
       go (yes z) = absurd (ne (W.last a node (subst (λ (d : ℕ). (s + d + a) % 2 ≡ 0) z side)
           (subst (λ (d : ℕ). Has (at L d) (a / 2)) z (subst (λ (b : ℕ). Has (at L k) (b / 2)) D.here (D.there k (omega (arith, W.some)) (omega arith))))))
-
-  pub descend_none : Descended S s t L qs ps 0
-  descend_none = record { queue = D.ready.queue; parent = D.ready.parent; place = omega arith; levels = W; found = λ n. absurd (n refl) }
 
   -- ---- one level down
 
@@ -356,6 +353,9 @@ module _ (S : List ℕ) (s t : ℕ) (L qs ps : List ℕ) (k a : ℕ) (D : Descen
       shortest = λ q w. omega (arith, span_length qs 0 k, far, walk_climb S t W.rank W.slow s q D.ready.source w, W.source, W.sink);
       first = λ q w h. span_first 0 k (omega arith) q (subst (λ (x : ℕ). Walk (step (masked S)) 128 x t q) (sym D.start) w) (h ∙ span_length qs 0 k);
     }
+
+    pub descend_some : 0 < k
+    descend_some = omega (arith, far, W.some)
 
     pub descend_found : Descended S s t L qs ps k
     descend_found = record {

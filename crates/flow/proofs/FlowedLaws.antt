@@ -2,6 +2,7 @@
 -- Assumes nothing.
 --
 --   flowed_unique     two results of `make_rounds` on the same input are equal: the count, whether a path is left, both masks, and the whole work list
+--   sides_one         two answers of the same numbers are equal: `is_left`, `ins_of` and `outs_of` lose nothing
 --   flowed_bound      at most 2 n (m + n) rounds are made, n and m being the numbers of jobs and of waits
 use mathlib.Core.Path.{◌≡◌, refl, sym, ap, ◌∙◌, subst}
 use mathlib.Core.Bool.{Bool}
@@ -12,10 +13,12 @@ use native.Mathlib.Decide.{dec_lt}
 use native.Mathlib.Omega.{arith}
 use lib.ListN.{length, get_or}
 use lib.Seq.{ext_get_or}
+use Rattle.std.specs.Prelude.{Option, None, Some}
 use Rattle.bits.specs.Mask.{has, MaskOf}
 use Rattle.bits.proofs.Masks.{mask_same, mask_unique}
 use Rattle.sums.specs.Sum.{gate}
 use Rattle.walks.specs.Walk.{Reaches}
+use Rattle.side.specs.declared.Sides.{Sides}
 use Rattle.graph.specs.Waits.{waits}
 use Rattle.network.specs.Rooms.{Room, step}
 use Rattle.network.specs.Rounds.{Rounds, Stuck}
@@ -26,6 +29,7 @@ use Rattle.network.proofs.Tally.{capacity_counted}
 use Rattle.network.specs.Costs.{cost_at}
 use Rattle.flow.specs.Accepted.{Accepted}
 use Rattle.flow.specs.Flowed.{Side, Ends, Flowed}
+use Rattle.flow.specs.Answer.{is_left, ins_of, outs_of}
 use Rattle.flow.specs.Flowed.Ends.{settled, unfinished}
 
 -- ---- one result
@@ -95,6 +99,13 @@ flowed_unique rows costs τ x a before after after' k k' left left' ins outs ins
     go : (i : ℕ) → Dec (i < length rows * length rows) → get_or after i 0 ≡ get_or after' i 0
     go i (yes h) = subst (λ (z : ℕ). get_or after z 0 ≡ get_or after' z 0) (div-add-mod' i (length rows)) (same (i / length rows) (i % length rows) ((div-lt_iff_lt-mul pos).1 h) (mod-lt i pos))
     go i (no h) = A.rest i (omega arith) ∙ sym (B.rest i (omega arith))
+
+-- the numbers leave no choice of the answer
+pub sides_one : (a b : Option Sides) → is_left a ≡ is_left b → ins_of a ≡ ins_of b → outs_of a ≡ outs_of b → a ≡ b
+sides_one None None l i o = refl
+sides_one (Some a) (Some b) l i o = λ j. Some (record { ins = i j; outs = o j })
+sides_one None (Some b) l i o = cc
+sides_one (Some a) None l i o = cc
 
 -- ---- how many rounds
 

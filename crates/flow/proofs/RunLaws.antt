@@ -2,18 +2,17 @@
 -- Assumes nothing.
 --
 --   Running                                  k rounds were made, and the lists hold and show their rooms
---   accepted_costed, accepted_beginnable, accepted_ready, running_ready
+--   accepted_costed, accepted_fits, accepted_beginnable, accepted_ready
 --                                            what `begin`, `search` and `descend` ask for
 --   running_start                            before the first round
 --   running_reaches, running_roundable       a path is left; what `round` asks for
 --   running_next, running_aside              one more round
---   running_sidable                          what `sink_side` asks for
 --   running_settled, running_left            no path is left; the allowance is used up
 use mathlib.Core.Path.{◌≡◌, refl, sym, ap, ◌∙◌, subst}
 use mathlib.Core.Logic.{◌≢◌}
 use mathlib.Core.Bool.{Bool, true, false}
 use mathlib.Core.List.{List}
-use Prim.Native.Nat.{ℕ, zero, suc, ◌+◌, ◌*◌, ◌<◌, ◌≤◌, zero-le}
+use Prim.Native.Nat.{ℕ, ◌+◌, ◌*◌, ◌<◌, ◌≤◌, zero-le, ◌^◌}
 use native.Mathlib.Numerals.{suc-eq-add-one}
 use native.Mathlib.Omega.{arith}
 use lib.ListN.{length, get_or, replicate, length-replicate}
@@ -29,12 +28,13 @@ use Rattle.network.specs.Arcs.{inn, out, within, total, capacity}
 use Rattle.search.specs.Masks.{at, masked}
 use Rattle.search.specs.Sought.{Ready, Path}
 use Rattle.push.specs.Way.{Way, Amount, PushedAlong, Roundable, Rounded}
-use Rattle.side.specs.Home.{Sidable, Sided}
+use Rattle.side.specs.Home.{Sided}
 use Rattle.network.specs.Costs.{cost_at}
 use Rattle.flow.specs.Accepted.{Accepted}
 use Rattle.flow.specs.Flowed.{Ends, Flowed}
 use Rattle.flow.specs.Flowed.Ends.{settled, unfinished}
 use Rattle.flow.specs.Inside.{Costed, Beginnable, Begun}
+use Rattle.flow.proofs.StartLaws.{zeros}
 use Rattle.flow.proofs.HeldLaws.{Held}
 use Rattle.flow.proofs.ShownLaws.{Shown}
 use Rattle.flow.proofs.NarrowLaws.{narrow_taken, narrow_stuck, narrow_side}
@@ -57,33 +57,26 @@ pub record Running (rows costs : List ℕ) (τ x allowance wide : ℕ) (F G S : 
 pub accepted_costed : (rows costs : List ℕ) (τ x : ℕ) (F : List ℕ) → Accepted rows costs τ x F → Costed costs x
 accepted_costed rows costs τ x F A = record { members = accepted_members rows costs τ x F A; bounded = omega (arith, total_small rows costs τ x F A) }
 
+pub accepted_fits : (rows costs : List ℕ) (τ x : ℕ) (F : List ℕ) → Accepted rows costs τ x F → total (length costs) (has x) (cost_at costs) + 1 < 2 ^ 64
+accepted_fits rows costs τ x F A = omega (arith, total_small rows costs τ x F A)
+
 pub accepted_ready : (rows costs : List ℕ) (τ x : ℕ) (F qs ps : List ℕ) → Accepted rows costs τ x F → length qs ≡ 128 → length ps ≡ 128 → Ready (2 * τ + 1) (2 * τ) qs ps
 accepted_ready rows costs τ x F qs ps A lq lp =
     let l = accepted_job rows costs τ x F A in
     let m = accepted_few rows costs τ x F A in
     record { source = omega arith; sink = omega arith; apart = λ e. omega arith; queue = lq; parent = lp }
 
-zeros : (L i : ℕ) → get_or {A = ℕ} (replicate L 0) i 0 ≡ 0
-zeros zero i = refl
-zeros (suc L) zero = refl
-zeros (suc L) (suc i) = zeros L i
+pub accepted_beginnable : (rows costs : List ℕ) (τ x : ℕ) (F : List ℕ) → Accepted rows costs τ x F → Beginnable rows x
+accepted_beginnable rows costs τ x F A = record { few = A.jobs.few; members = A.members }
 
-pub accepted_beginnable : (rows costs : List ℕ) (τ x : ℕ) (F S : List ℕ) → Accepted rows costs τ x F → (L : ℕ) → L ≡ 128 → S ≡ replicate L 0 → Beginnable rows x S
-accepted_beginnable rows costs τ x F S A L eL eS = record {
-  few = A.jobs.few;
-  members = A.members;
-  size = ap length eS ∙ length-replicate L 0 ∙ eL;
-  blank = λ a. ap (λ (z : List ℕ). at z a) eS ∙ zeros L a;
-}
-
-pub running_start : (rows costs : List ℕ) (τ x allowance wide : ℕ) (F G S : List ℕ) (sum : ℕ) → Accepted rows costs τ x F
-    → sum ≡ total (length costs) (has x) (cost_at costs) → wide ≡ sum + 1 → (L : ℕ) → L ≡ 64 → G ≡ replicate L 0 → Begun rows τ x S → Running rows costs τ x allowance wide F G S 0
-running_start rows costs τ x allowance wide F G S sum A es ew L eL eG B = record {
+pub running_start : (rows costs : List ℕ) (τ x allowance wide : ℕ) (F G S : List ℕ) → Accepted rows costs τ x F
+    → wide ≡ total (length costs) (has x) (cost_at costs) + 1 → G ≡ replicate 64 0 → Begun rows τ x S → Running rows costs τ x allowance wide F G S 0
+running_start rows costs τ x allowance wide F G S A ew eG B = record {
   start = F;
   accepted = A;
   width = omega arith;
   room = net_of rows costs τ x;
-  held = held_start rows costs τ x F A G (ap length eG ∙ length-replicate L 0 ∙ eL) (λ u. ap (λ (g : List ℕ). at g u) eG ∙ zeros L u);
+  held = held_start rows costs τ x F A G (ap length eG ∙ length-replicate {A = ℕ} 64 0) (λ u. ap (λ (g : List ℕ). at g u) eG ∙ zeros 64 u);
   shown = shown_start rows costs τ x F A S B;
   made = none (λ a b la lb. refl);
   limit = zero-le;
@@ -98,12 +91,6 @@ module _ (rows costs : List ℕ) (τ x allowance wide : ℕ) (F G S : List ℕ) 
 
   members : (u : ℕ) → Has x u → u < length costs
   members = accepted_members rows costs τ x R.start R.accepted
-
-  pub running_ready : (qs' ps' : List ℕ) → length qs' ≡ 128 → length ps' ≡ 128 → Ready (2 * τ + 1) (2 * τ) qs' ps'
-  running_ready qs' ps' = accepted_ready rows costs τ x R.start qs' ps' R.accepted
-
-  pub running_job : τ < 64
-  running_job = let l = accepted_job rows costs τ x R.start R.accepted in omega (arith, few)
 
   -- ---- the next round
 
@@ -161,9 +148,6 @@ module _ (rows costs : List ℕ) (τ x allowance wide : ℕ) (F G S : List ℕ) 
       }
 
   -- ---- the end
-
-  pub running_sidable : Sidable S τ x
-  running_sidable = record { size = R.shown.size; job = running_job; member = R.accepted.member; only = λ a b la lb t. (R.shown.only a b la lb t).0 }
 
   -- the statement over any number n that is the number of jobs
   ending : (before : List ℕ) → Aside (length costs) before F → (n : ℕ) → length costs ≡ n → n ≡ length rows → (left : Bool) (ins outs : ℕ)

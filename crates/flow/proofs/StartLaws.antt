@@ -3,27 +3,33 @@
 --
 --   Beginning rows τ x rest steps        the masks of the jobs that are no more in rest are those of the start, all others 0
 --   begin_start, begin_turn, begin_end
-use mathlib.Core.Path.{◌≡◌, sym, ap, ◌∙◌, subst}
+--   zeros                                each place of a list of zeros
+use mathlib.Core.Path.{◌≡◌, refl, sym, ap, ◌∙◌, subst}
 use mathlib.Core.Logic.{◌⊎◌, inl, inr, ◌≢◌}
 use mathlib.Core.Bool.{Bool, not}
 use mathlib.Core.List.{List}
-use Prim.Native.Nat.{ℕ, ◌+◌, ◌-◌, ◌*◌, ◌/◌, ◌%◌, ◌^◌, ◌<◌, ◌≤◌}
+use Prim.Native.Nat.{ℕ, zero, suc, ◌+◌, ◌-◌, ◌*◌, ◌/◌, ◌%◌, ◌^◌, ◌<◌, ◌≤◌}
 use native.Mathlib.Decide.{ℕ_discrete}
 use native.Mathlib.Omega.{arith}
 use lib.Bits.{bit_and}
 use lib.Count.{count_trailing_zeros}
 use lib.Dec.{eqb}
-use lib.ListN.{length, set, length-set}
+use lib.ListN.{length, get_or, replicate, length-replicate, set, length-set}
 use lib.Seq.{get_or-set_same, get_or-set_other}
 use Rattle.bits.specs.Mask.{Has, has}
 use Rattle.bits.proofs.Masks.{has_test, test_has}
-use Rattle.bits.proofs.Rest.{Rest, rest_start, rest_end, rest_low, rest_here, rest_below, rest_less, rest_next, rest_gone, rest_cases}
+use Rattle.bits.proofs.Rest.{Rest, rest_start, rest_end, rest_low, rest_here, rest_below, rest_next, rest_gone, rest_cases}
 use Rattle.sums.specs.Sum.{gate}
 use Rattle.sums.proofs.TestLaws.{ne_test, test_ne, eqb_on, eqb_off}
 use Rattle.sums.proofs.SumLaws.{gate_on, gate_off}
 use Rattle.network.specs.Rooms.{pick}
 use Rattle.search.specs.Masks.{at}
 use Rattle.flow.specs.Inside.{start_mask, Beginnable, Begun}
+
+pub zeros : (L i : ℕ) → get_or {A = ℕ} (replicate L 0) i 0 ≡ 0
+zeros zero i = refl
+zeros (suc L) zero = refl
+zeros (suc L) (suc i) = zeros L i
 
 -- ---- the masks of the start, node by node
 
@@ -58,14 +64,14 @@ pub record Beginning (rows : List ℕ) (τ x rest : ℕ) (steps : List ℕ) : Ty
   -- the jobs of rest have no step yet
   pub undone : (a : ℕ) → Has rest (a / 2) → at steps a ≡ 0
 
-pub begin_start : (rows : List ℕ) (τ x : ℕ) (steps : List ℕ) → Beginnable rows x steps → x < 2 ^ 64 → Beginning rows τ x x steps
-begin_start rows τ x steps B l = record {
+pub begin_start : (rows : List ℕ) (τ x : ℕ) → Beginnable rows x → x < 2 ^ 64 → Beginning rows τ x x (replicate 128 0)
+begin_start rows τ x B l = record {
   few = B.few;
   members = B.members;
   rest_part = rest_start x l;
-  size = B.size;
-  done = λ a la n. B.blank a ∙ sym (start_outside rows τ x a n);
-  undone = λ a h. B.blank a;
+  size = length-replicate {A = ℕ} 128 0;
+  done = λ a la n. zeros 128 a ∙ sym (start_outside rows τ x a n);
+  undone = λ a h. zeros 128 a;
 }
 
 module _ (rows : List ℕ) (τ x rest : ℕ) (steps : List ℕ) (B : Beginning rows τ x rest steps) where
@@ -75,9 +81,6 @@ module _ (rows : List ℕ) (τ x rest : ℕ) (steps : List ℕ) (B : Beginning r
 
     pub begin_job : count_trailing_zeros 64 rest < length rows
     begin_job = B.members (count_trailing_zeros 64 rest) (rest_low x rest B.rest_part some)
-
-    pub begin_less : bit_and rest (rest - 1) < rest
-    begin_less = rest_less x rest B.rest_part some
 
     abbrev wide : List ℕ
     wide = set steps (2 * count_trailing_zeros 64 rest + 1) (bit_and (at rows (count_trailing_zeros 64 rest)) x)

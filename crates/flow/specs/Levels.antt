@@ -8,8 +8,9 @@
 --   Levels S s t L       no path is shorter than `depth`, and those of that length lead through L: `rank` is the number of steps behind which a node can stand on them
 --   Descent              a path of a round whose length is that of the levels
 --   Descendable, Descended
---                        what `descend` is given, and what it leaves: where its result is not 0 such a path, and levels in any case
-use Rattle.std.specs.Prelude.{◌≡◌, ◌≢◌, List, ℕ, zero, suc, ◌+◌, ◌/◌, ◌%◌, ◌^◌, ◌<◌, ◌≤◌, T, length}
+--                        what `descend` is given, and what it leaves: where e is not 0 such a path, and levels in any case
+--   Lowered              `Descended` at the length that it answers, which is not 0, or at 0 where it answers none
+use Rattle.std.specs.Prelude.{◌≡◌, ◌≢◌, List, ℕ, zero, suc, ◌+◌, ◌/◌, ◌%◌, ◌^◌, ◌<◌, ◌≤◌, T, length, Option, None, Some}
 use Rattle.bits.specs.Mask.{Has}
 use Rattle.walks.specs.Walk.{Walk}
 use Rattle.network.specs.Rooms.{step}
@@ -69,3 +70,7 @@ pub record Descended (S : List ℕ) (s t : ℕ) (L qs ps : List ℕ) (e : ℕ) :
   pub place : e < 128
   pub levels : Levels S s t L
   pub found : e ≢ 0 → Descent S s t L qs ps e
+
+abbrev pub Lowered : List ℕ → ℕ → ℕ → List ℕ → List ℕ → List ℕ → Option ℕ → Type 0
+Lowered S s t L qs ps None = Descended S s t L qs ps 0
+Lowered S s t L qs ps (Some e) = (0 < e) × Descended S s t L qs ps e

@@ -1,4 +1,5 @@
 pub mod Accepted
 pub mod Flowed
+pub mod Answer
 pub mod Inside
 pub mod Levels

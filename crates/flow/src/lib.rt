@@ -1,176 +1,157 @@
 // Rounds against an allowance: the flow layer's written statement is `Flowed`.
 // The network is that of the document, over the rows, the costs, T (here t) and the mask x of X; it is never written down.
-// Kept during the rounds: the flow on the waits in the lent work list, the flow through each job, and for each node the mask of its steps with room.
+// Kept during the rounds: the flow, with the masks of the steps that have room, and what the search of the last path has left.
 // A round's path is found by a search, or, behind the first rounds, down the levels of a search that has found one of its length.
 #![tactic(auto)]
 
-ghost use Rattle.std.specs.Prelude.{◌≡◌, true, ◌+◌, ◌*◌, length};
+ghost use Rattle.std.specs.Prelude.{◌≡◌, ◌+◌, ◌*◌, length, replicate};
 ghost use Rattle.bits.specs.Mask.{has};
 ghost use Rattle.network.specs.Arcs.{total};
 ghost use Rattle.network.specs.Costs.{cost_at};
 ghost use Rattle.flow.specs.Accepted.{Accepted};
 ghost use Rattle.flow.specs.Flowed.{Flowed};
+ghost use Rattle.flow.specs.Answer.{is_left, ins_of, outs_of};
 ghost use Rattle.flow.specs.Inside.{Costed, Beginnable, Begun};
-ghost use Rattle.flow.specs.Levels.{Layerable, Layered, Descendable, Descended};
+ghost use Rattle.flow.specs.Levels.{Layerable, Layered, Descendable, Lowered};
 
-use push::round;
-use search::search;
-use side::sink_side;
+use bits::Members;
+use calls::Call;
+use push::Flow;
+use search::{Trail, search};
+use side::{Sides, sink_side};
 
-#[derive(Drop)]
+// How many rounds were made, and the sink's side where no path is left. Where there is none, the allowance is used up and a path is left.
+#[derive(Clone, Copy, Debug, PartialEq, Eq)]
 pub struct Made {
     pub rounds: u32,
-    pub left: bool,
-    pub ins: u64,
-    pub outs: u64,
+    pub sides: Option<Sides>,
 }
 
-// The masks of the steps with room before the first round; returns S, the sum of the costs of the jobs of x.
-fn begin(rows: &[u64], costs: &[u64], t: usize, x: u64, steps: &mut [u64; 128]) -> u64
-    requires { Beginnable rows.now x steps.old × Costed costs.now x }
-    ensures value { result ≡ total (length costs.now) (has x) (cost_at costs.now) }
-    ensures begun { Begun rows.now t x steps.new }
+// Gives a flow with no steps the masks of the steps with room before the first round; returns S, the sum of the costs of the jobs of x.
+// The flow is lent, so that its lists are made once and not moved.
+fn begin(call: Call<'_, u64>, x: u64, flow: &mut Flow<'_>) -> u64
+    requires jobs { Beginnable call.rows.now x × Costed call.costs.now x }
+    requires none { flow.old.steps ≡ replicate 128 0 }
+    ensures value { result ≡ total (length call.entry.costs.now) (has x) (cost_at call.entry.costs.now) }
+    ensures begun { Begun call.entry.rows.now call.entry.t x flow.new.steps }
+    ensures same_flow { (flow.new.work.now ≡ flow.old.work.now) × (flow.new.thru ≡ flow.old.thru) }
+    ensures same_costs { flow.new.costs.now ≡ flow.old.costs.now }
+    ensures same_work { flow.new.work.ghost_name ≡ flow.old.work.ghost_name }
 {
-    let mut rest = x;
-    let mut sum = 0u64;
-    while rest != 0 {
-        let u = u64::trailing_zeros(rest) as usize;
-        steps[2 * u + 1] = rows[u] & x;
-        if u != t {
-            steps[2 * u] = 1u64 << u;
+    let mut sum = 0;
+    for u in Members(x) {
+        sum += call.costs[u];
+        flow.steps[2 * u + 1] = call.rows[u] & x;
+        if u != call.t {
+            flow.steps[2 * u] = 1 << u;
         }
-        sum += costs[u];
-        rest = rest & (rest - 1);
     }
     sum
 }
 
-// The levels of a queue that a search has left, up to place e.
+// The levels of a queue that a search has left, up to place e. They are lent, so that the list is made once and not moved.
 fn layer(queue: &[u8; 128], e: usize, levels: &mut [u64; 128])
     requires { Layerable queue.now e levels.old }
     ensures { Layered queue.now e levels.new }
 {
-    let mut k = 0usize;
-    let mut side = (queue[0] as usize) % 2;
+    let mut k = 0;
+    // a side is the parity of its nodes' numbers, as document 01 numbers them: 2u and 2u + 1
+    let mut side = queue[0] % 2;
     let mut met = 0u64;
-    let mut i = 0usize;
-    while i <= e {
-        let b = queue[i] as usize;
+    for b in &queue[..=e] {
         if b % 2 != side {
             levels[k] = met;
             met = 0;
             k += 1;
             side = 1 - side;
         }
-        met = met | (1u64 << (b / 2));
-        i += 1;
+        met |= 1 << (b / 2);
     }
-    let b = queue[e] as usize;
-    levels[k] = 1u64 << (b / 2);
+    levels[k] = 1 << (queue[e] / 2);
 }
 
-// A further path from T's out-node to its in-node down the levels, lowest nodes first: its length, or 0 where none is found. Nodes that lead nowhere leave their level.
-// Promised is one direction alone: a length is that of the path of a round. After a 0 a search decides whether a path is left.
+// A further path from T's out-node to its in-node down the levels, lowest nodes first: its length, if one is found. Nodes that lead nowhere leave their level.
+// Promised is one direction alone: a length is that of the path of a round. Where none is found a search decides whether a path is left.
 fn descend(
     steps: &[u64; 128],
     t: usize,
     levels: &mut [u64; 128],
-    queue: &mut [u8; 128],
-    parent: &mut [u8; 128],
-) -> usize
-    requires { Descendable steps.now (2 * t + 1) (2 * t) levels.old queue.old parent.old }
-    ensures { Descended steps.now (2 * t + 1) (2 * t) levels.new queue.new parent.new result }
+    trail: &mut Trail,
+) -> Option<usize>
+    requires { Descendable steps.now (2 * t + 1) (2 * t) levels.old trail.old.queue trail.old.parent }
+    ensures { Lowered steps.now (2 * t + 1) (2 * t) levels.new trail.new.queue trail.new.parent result }
 {
     let sink = 2 * t;
     let mut a = sink + 1;
-    queue[0] = a as u8;
-    let mut k = 0usize;
-    let mut side = 0usize;
+    trail.queue[0] = a as u8;
+    let mut k = 0;
+    let mut side = 0;
     while a != sink {
         let rest = steps[a] & levels[k + 1];
         if rest == 0 {
             if k == 0 {
-                return 0;
+                return None;
             }
-            levels[k] = levels[k] ^ (1u64 << (a / 2));
+            levels[k] ^= 1 << (a / 2);
             k -= 1;
-            a = queue[k] as usize;
-            side = 1 - side;
+            a = trail.queue[k] as usize;
         } else {
-            a = 2 * (u64::trailing_zeros(rest) as usize) + side;
-            parent[k + 1] = k as u8;
+            a = 2 * rest.trailing_zeros() as usize + side;
+            trail.parent[k + 1] = k as u8;
             k += 1;
-            queue[k] = a as u8;
-            side = 1 - side;
+            trail.queue[k] = a as u8;
         }
+        side = 1 - side;
     }
-    k
-}
-
-// What is made where the allowance is used up and a path is left.
-fn unfinished(rounds: u32) -> Made
-    ensures { (result.rounds ≡ rounds) × (result.left ≡ true) × (result.ins ≡ 0) × (result.outs ≡ 0) }
-{
-    Made {
-        rounds: rounds,
-        left: true,
-        ins: 0,
-        outs: 0,
-    }
+    Some(k)
 }
 
 // So many rounds are found by a search each. Few snapshots take more, and for those that do not the levels cost more than they save.
 const FEW: u32 = 12;
 
 // The rounds from T's out-node to its in-node, until no path is left or the allowance is used up.
-// Behind the first ones the paths of one length are found down the levels of one search.
-pub fn make_rounds(
-    rows: &[u64],
-    costs: &[u64],
-    t: usize,
-    x: u64,
-    allowance: u32,
-    work: &mut [u64],
-) -> Made
-    requires { Accepted rows.now costs.now t x work.old }
-    ensures { Flowed rows.now costs.now t x allowance work.old work.new result.rounds result.left result.ins result.outs }
+// Behind the first ones the further paths of one length are found down the levels of one search.
+pub fn make_rounds(call: Call<'_, u64>, x: u64, work: &mut [u64]) -> Made
+    requires { Accepted call.rows.now call.costs.now call.t x work.old }
+    ensures { Flowed call.entry.rows.now call.entry.costs.now call.entry.t x call.entry.allowance work.old work.new result.rounds (is_left result.sides) (ins_of result.sides) (outs_of result.sides) }
 {
-    let mut steps = [0u64; 128];
-    let wide = begin(rows, costs, t, x, &mut steps) + 1;
-    let mut thru = [0u64; 64];
-    let mut queue = [0u8; 128];
-    let mut parent = [0u8; 128];
-    let mut rounds = 0u32;
-    let mut e = search(&steps, 2 * t + 1, 2 * t, &mut queue, &mut parent);
-    while e != 0 {
-        if rounds == allowance {
-            return unfinished(rounds);
+    let mut flow = Flow {
+        costs: call.costs,
+        wide: 0,
+        work,
+        thru: [0; 64],
+        steps: [0; 128],
+    };
+    flow.wide = begin(call, x, &mut flow) + 1;
+    let mut trail = Trail::new();
+    let mut rounds = 0;
+    // Both loops make a round in the same way: a function for it would need the invariant of the rounds, which stands in proofs, in its contract.
+    'searched: while let Some(e) = search(&flow.steps, 2 * call.t + 1, 2 * call.t, &mut trail) {
+        if rounds == call.allowance {
+            return Made {
+                rounds,
+                sides: None,
+            };
         }
-        if rounds == FEW {
-            break;
-        }
-        round(costs, wide, work, &mut thru, &mut steps, &queue, &parent, e);
+        flow.round(&trail, e);
         rounds += 1;
-        e = search(&steps, 2 * t + 1, 2 * t, &mut queue, &mut parent);
-    }
-    while e != 0 {
-        let mut levels = [0u64; 128];
-        layer(&queue, e, &mut levels);
-        while e != 0 {
-            if rounds == allowance {
-                return unfinished(rounds);
+        if rounds > FEW {
+            let mut levels = [0; 128];
+            layer(&trail.queue, e, &mut levels);
+            'lowered: while let Some(e) = descend(&flow.steps, call.t, &mut levels, &mut trail) {
+                if rounds == call.allowance {
+                    return Made {
+                        rounds,
+                        sides: None,
+                    };
+                }
+                flow.round(&trail, e);
+                rounds += 1;
             }
-            round(costs, wide, work, &mut thru, &mut steps, &queue, &parent, e);
-            rounds += 1;
-            e = descend(&steps, t, &mut levels, &mut queue, &mut parent);
         }
-        e = search(&steps, 2 * t + 1, 2 * t, &mut queue, &mut parent);
     }
-    let side = sink_side(&steps, t, x);
     Made {
-        rounds: rounds,
-        left: false,
-        ins: side.ins,
-        outs: side.outs,
+        rounds,
+        sides: Some(sink_side(&flow.steps, call.t, x)),
     }
 }

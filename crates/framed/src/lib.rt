@@ -4,15 +4,12 @@
 ghost use Rattle.std.specs.Prelude.{◌≡◌};
 ghost use Rattle.framed.specs.Framed.{frame_of};
 
-// The frame that says a verdict.
-pub fn answer_frame(d: verdict::Decision) -> frames::Answer
+use frames::Answer;
+use verdict::Decision;
+
+// The frame that says a verdict. A function, since a `From` stands in the crate of one of its types, and neither names the other's.
+pub fn answer_frame(d: Decision) -> Answer
     ensures { result ≡ frame_of d }
 {
-    let outcome = d.outcome;
-    frames::Answer::new(
-        verdict::outcome_number(outcome),
-        d.price,
-        d.rounds,
-        d.victims,
-    )
+    Answer::new(d.outcome.into(), d.price, d.rounds, d.victims)
 }

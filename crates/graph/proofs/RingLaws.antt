@@ -3,19 +3,19 @@
 --
 --   Homing                       x has jobs that T reaches and that reach T; the invariant of `on_rings`
 --   home_start, home_gatherable, home_grow, home_small, home_turn, home_end
---   ring_some, ring_none         a ring through T passes a job of X that T waits for
+--   ring_some, ring_none         a ring through T passes a job of X that T waits for; ring_tested: so the code tests it
 --   Lies u p                     job u stands in the list p
 --   x_lies, lies_x               X is "T with all jobs that lie on a ring through T"
-use mathlib.Core.Path.{◌≡◌, sym, subst}
+use mathlib.Core.Path.{◌≡◌, refl, sym, subst}
 use mathlib.Core.Logic.{◌⊎◌, inl, inr, ⊎_elim, ◌≢◌}
-use mathlib.Core.Bool.{Bool}
+use mathlib.Core.Bool.{Bool, not}
 use mathlib.Core.List.{List, [], ◌∷◌}
 use Prim.Native.Nat.{ℕ, ◌+◌, ◌*◌, ◌^◌, ◌<◌, zero-le, suc-le-suc}
 use native.Mathlib.Omega.{arith}
 use native.Mathlib.Decide.{ℕ_discrete}
 use lib.Bits.{bit_and, bit_or, bit_xor, and_lt, or_lt}
 use lib.Count.{count_trailing_zeros}
-use lib.Dec.{T}
+use lib.Dec.{T, eqb}
 use lib.Pow.{pow-lt}
 use lib.ListN.{length, get_or}
 use Rattle.bits.specs.Mask.{bit, Has, MaskOf}
@@ -23,10 +23,12 @@ use Rattle.bits.proofs.Digits.{bit_zero, bit_pow_same}
 use Rattle.bits.proofs.Masks.{has_and, and_has, has_or_l, has_or_cases, has_pow_cases, has_xor, xor_has, or_grows}
 use Rattle.bits.proofs.Lowest.{trailing_has}
 use Rattle.bits.proofs.Rest.{rest_end}
+use Rattle.sums.proofs.TestLaws.{eqb_off}
 use Rattle.walks.specs.Walk.{Walk, Reaches}
 use Rattle.walks.proofs.ReachLaws.{reaches_here, reaches_step, reaches_on, reaches_in}
 use Rattle.graph.specs.Waits.{waits, Jobs}
-use Rattle.graph.specs.Rings.{Ring, InX}
+use Rattle.graph.specs.Rings.{Ring, InX, RingThrough}
+use Rattle.graph.specs.Rings.RingThrough.{some, none}
 use Rattle.graph.specs.Hits.{Gatherable, Hits}
 use Rattle.graph.proofs.WaitLaws.{waits_has, has_waits}
 
@@ -139,6 +141,14 @@ module _ (rows : List ℕ) (t x : ℕ) (l : t < length rows) (X : MaskOf (InX (w
       let s = reaches_on (waits rows) (length rows) t t v (reaches_here (waits rows) (length rows) t) r.1.1 r.1.0 in
       let h = and_has row x v (subst (λ (y : ℕ). Has y v) (sym e) (waits_has rows t v r.1.1)) (X.complete v (record { out = s; home = q })) in
       omega (arith, bit_zero v, subst (λ (y : ℕ). Has y v) z h)
+
+  -- as the code tests it
+  pub ring_tested : get_or rows t 0 < 2 ^ 64 → RingThrough (waits rows) (length rows) t (not (eqb (bit_and (get_or rows t 0) x) 0))
+  ring_tested small = go (ℕ_discrete (bit_and (get_or rows t 0) x) 0)
+    where
+      go : Dec (bit_and (get_or rows t 0) x ≡ 0) → RingThrough (waits rows) (length rows) t (not (eqb (bit_and (get_or rows t 0) x) 0))
+      go (yes e) = rw e (none (ring_none (get_or rows t 0) refl e))
+      go (no e) = rw (eqb_off (bit_and (get_or rows t 0) x) 0 e) (let r = ring_some (get_or rows t 0) refl small e in some r.0 r.1)
 
 -- ---- X in the document's other words
 

@@ -12,25 +12,15 @@ ghost use Rattle.graph.specs.Waits.{waits, Jobs, Known};
 ghost use Rattle.graph.specs.Rings.{InX, RingThrough};
 ghost use Rattle.graph.specs.Hits.{Gatherable, Hits};
 
+use bits::Members;
+
 // Whether no row names a job past the end of the list.
 pub fn rows_known(rows: &[u64]) -> bool
     requires { length rows.now ≤ 64 }
     ensures { Known rows.now result }
 {
-    let n = rows.len();
-    if n == 0 {
-        return true;
-    }
-    let mut named = 0u64;
-    let mut u = 0;
-    while u < n {
-        named |= rows[u];
-        u += 1;
-    }
-    if (named >> (n - 1)) >> 1 != 0 {
-        return false;
-    }
-    true
+    let end = 1u128 << rows.len();
+    rows.iter().all(|row| u128::from(*row) < end)
 }
 
 // The jobs that `from` reaches by no or more waits.
@@ -41,7 +31,7 @@ pub fn reach(rows: &[u64], from: usize) -> u64
     let mut seen = 1u64 << from;
     let mut done = 0u64;
     while seen != done {
-        let u = u64::trailing_zeros(seen ^ done) as usize;
+        let u = (seen ^ done).trailing_zeros() as usize;
         done |= 1u64 << u;
         seen |= rows[u];
     }
@@ -53,14 +43,11 @@ pub fn gather(masks: &[u64], k: usize, first: usize, jobs: u64, marked: u64) -> 
     requires { Gatherable masks.now k first jobs }
     ensures { MaskOf (Hits masks.now k first jobs marked) result }
 {
-    let mut rest = jobs;
-    let mut hits = 0u64;
-    while rest != 0 {
-        let u = u64::trailing_zeros(rest) as usize;
+    let mut hits = 0;
+    for u in Members(jobs) {
         if masks[k * u + first] & marked != 0 {
             hits |= 1u64 << u;
         }
-        rest = rest & (rest - 1);
     }
     hits
 }
@@ -72,12 +59,13 @@ pub fn on_rings(rows: &[u64], t: usize) -> u64
 {
     let away = reach(rows, t);
     let mut x = 1u64 << t;
-    let mut fresh = gather(rows, 1, 0, away ^ x, x);
-    while fresh != 0 {
+    loop {
+        let fresh = gather(rows, 1, 0, away ^ x, x);
+        if fresh == 0 {
+            return x;
+        }
         x |= fresh;
-        fresh = gather(rows, 1, 0, away ^ x, x);
     }
-    x
 }
 
 // Whether a ring passes through t, where x is X.
@@ -86,9 +74,5 @@ pub fn ring_through(rows: &[u64], t: usize, x: u64) -> bool
     requires mask_of { MaskOf (InX (waits rows.now) (length rows.now) t) x }
     ensures { RingThrough (waits rows.now) (length rows.now) t result }
 {
-    let next = rows[t] & x;
-    if next != 0 {
-        return true;
-    }
-    false
+    rows[t] & x != 0
 }

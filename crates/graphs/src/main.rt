@@ -7,78 +7,79 @@
 //   refused K                     1 where there is no row, 4 where a row names a job that is not there, 6 where T is no job
 #![tactic(auto)]
 
-ghost use Rattle.std.specs.Prelude.{◌<◌, ◌≤◌, length};
+ghost use Rattle.std.specs.Prelude.{◌≤◌, length, take};
+ghost use Rattle.graphs.specs.Questions.{QuestionAt, NoRoom};
 
+use cases::{Line, Numbers, answer_lines, yes_or_no};
+use reasons::Reason;
 use std::io::Stdout;
-use words::{word, words};
+use words::Words;
 
-// Writes a number. A write that fails is let go, here and below.
-fn print(out: &Stdout, x: u64) {
-    let _written = print!(out; "{x:x}");
+// The rows on a line, and the job that is asked about.
+#[derive(Drop)]
+struct Question {
+    rows: Numbers<64>,
+    t: usize,
 }
 
-// Writes a refusal.
-fn print_refused(out: &Stdout, number: u64) {
-    let _written = print!(out; "refused ");
-    print(out, number);
+impl Line for Question {
+    ghost line_at = { λ text at question next. QuestionAt text at (take question.rows.count question.rows.list) question.t next };
+
+    ghost no_room = { NoRoom };
+
+    fn read(words: &mut Words<'_>) -> Option<Question> {
+        let mut opening = [0u64; 2];
+        words.fill(&mut opening);
+        let [rows, t] = opening;
+        let rows = Numbers::read(words, rows as usize)?;
+        Some(Question {
+            rows,
+            t: t as usize,
+        })
+    }
 }
 
-// Writes what the graph layer says of job t.
-fn print_graph(out: &Stdout, rows: &[u64], t: usize)
+// Whom the job reaches, X, and whether a ring passes through the job.
+#[derive(Clone, Copy)]
+struct Answer {
+    reach: u64,
+    x: u64,
+    ring: bool,
+}
+
+// What the graph layer says of job t.
+fn ask(rows: &[u64], t: usize) -> Result<Answer, Reason>
     requires { length rows.now ≤ 64 }
 {
-    if rows.len() == 0 {
-        print_refused(out, 1);
-        return;
+    if rows.is_empty() {
+        return Err(Reason::BadRows);
     }
     if !graph::rows_known(rows) {
-        print_refused(out, 4);
-        return;
+        return Err(Reason::StrayJob);
     }
     if t >= rows.len() {
-        print_refused(out, 6);
-        return;
+        return Err(Reason::NoSuchJob);
     }
+    let reach = graph::reach(rows, t);
     let x = graph::on_rings(rows, t);
-    let _written = print!(out; "reach ");
-    print(out, graph::reach(rows, t));
-    let _written = print!(out; " x ");
-    print(out, x);
-    if graph::ring_through(rows, t, x) {
-        let _written = print!(out; " ring yes");
-        return;
-    }
-    let _written = print!(out; " ring no");
+    let ring = graph::ring_through(rows, t, x);
+    Ok(Answer { reach, x, ring })
 }
 
-// Answers the line at a place, and gives the place behind it.
-fn line(out: &Stdout, text: &[u8], at: usize) -> usize
-    requires { at < length text.now }
-    ensures { (at < result) × (result ≤ length text.now) }
-{
-    let count = word(text, at);
-    let t = word(text, count.next);
-    let n = count.value as usize;
-    if n > 64 {
-        return text.len();
-    }
-    let mut rows = [0u64; 64];
-    let next = words(text, t.next, &mut rows[..n]);
-    print_graph(out, &rows[..n], t.value as usize);
-    let _written = print!(out; "\n");
-    next
-}
-
-// Answers all lines of a text.
-fn lines(out: &Stdout, text: &[u8]) {
-    let mut at = 0;
-    while at < text.len() {
-        at = line(out, text, at);
-    }
+// Answers a question. A write that fails is let go.
+fn print_answer(out: &Stdout, question: &Question) {
+    let _written = match ask(question.rows.as_slice(), question.t) {
+        Ok(Answer { reach, x, ring }) => {
+            println!(out; "reach {reach:x} x {x:x} ring {}", yes_or_no(ring))
+        }
+        Err(reason) => println!(out; "refused {:x}", u8::from(reason)),
+    };
 }
 
 fn main(rt: HostRuntime) {
-    let mut text = [0u8; 65536];
-    let n = input::read_full(&mut rt.stdin(), &mut text);
-    lines(&rt.stdout(), &text[..n])
+    let out = rt.stdout();
+    answer_lines(
+        &mut rt.stdin(),
+        |question: Question| print_answer(&out, &question),
+    );
 }

@@ -1,5 +1,4 @@
 pub mod ReadLaws
 pub mod ByteLists
-pub mod ZeroLaws
-pub mod EachLaws
+pub mod WriteLaws
 pub mod Unique

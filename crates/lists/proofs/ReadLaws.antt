@@ -3,15 +3,15 @@
 --
 --   numbers_length     the first k numbers are k
 --   numbers_snoc       one more at the end
---   Reading            the loop's invariant; reading_start, reading_turn, reading_end
+--   read_turn          a turn of the loop
 use mathlib.Core.Path.{◌≡◌, refl, sym, ap, ◌∙◌}
-use mathlib.Core.List.{List, [], ◌∷◌, ◌++◌, append-nil}
-use Prim.Native.Nat.{ℕ, zero, suc, ◌+◌, ◌*◌, ◌<◌, ◌≤◌, zero-le}
+use mathlib.Core.List.{List, [], ◌∷◌, ◌++◌}
+use Prim.Native.Nat.{ℕ, zero, suc, ◌+◌, ◌*◌, ◌<◌}
 use native.Mathlib.Nat.{add_assoc}
 use native.Mathlib.Numerals.{add-one}
 use native.Mathlib.Omega.{arith}
-use lib.ListN.{get_or, drop, set, length, length-set}
-use lib.Seq.{get_or-drop, drop-cons, set_at, append_snoc, drop-length}
+use lib.ListN.{get_or, drop, set, length}
+use lib.Seq.{get_or-drop, drop-cons, set_at, append_snoc}
 use Rattle.codec.specs.Bytes.{number_at}
 use Rattle.lists.specs.Numbers.{numbers}
 
@@ -32,32 +32,9 @@ numbers_snoc (suc k) b =
     ap (λ (r : List ℕ). number_at b 0 8 ∷ r)
     (numbers_snoc k (drop 8 b) ∙ ap (λ (x : ℕ). numbers k (drop 8 b) ++ (x ∷ [])) (number_drop b (8 * k) 8 ∙ ap (λ (z : ℕ). number_at b z 8) (omega arith)))
 
--- the first i places of the list l₀ hold the numbers of b, the rest are as they were
-pub record Reading (b l₀ l : List ℕ) (i : ℕ) : Type 0 where
-  pub under : i ≤ length l₀
-  pub size : length l ≡ length l₀
-  pub done : l ≡ numbers i b ++ drop i l₀
-
-pub reading_start : (b l₀ : List ℕ) → Reading b l₀ l₀ 0
-unfolding numbers
-reading_start b l₀ = record { under = zero-le; size = refl; done = refl }
-
-pub reading_turn : (b l₀ l : List ℕ) (i x : ℕ) → Reading b l₀ l i → i < length l → x ≡ number_at b (8 * i) 8 → Reading b l₀ (set l i x) (i + 1)
-reading_turn b l₀ l i x R lt e =
-    let s = R.size in
-    let under : i < length l₀ = omega arith in
-    record {
-      under = omega arith;
-      size = length-set l i x ∙ R.size;
-      done =
-          rw (R.done, add-one i, numbers_snoc i b, drop-cons l₀ i 0 under, e)
-          (set_at (numbers i b) (get_or l₀ i 0) (drop (suc i) l₀) (number_at b (8 * i) 8) i (numbers_length i b)
-          ∙ sym (append_snoc (numbers i b) (number_at b (8 * i) 8) (drop (suc i) l₀)));
-    }
-
-pub reading_end : (b l₀ l : List ℕ) (i : ℕ) → Reading b l₀ l i → length l ≤ i → l ≡ numbers (length l₀) b
-reading_end b l₀ l i R le =
-    let s = R.size in
-    let u = R.under in
-    let e : i ≡ length l₀ = omega arith in
-    R.done ∙ rw (e, drop-length l₀) (append-nil (numbers (length l₀) b))
+-- one place more: the first i places of the list l₀ hold the numbers of b, the rest are as they were
+pub read_turn : (b l₀ l : List ℕ) (i x : ℕ) → i < length l₀ → l ≡ numbers i b ++ drop i l₀ → x ≡ number_at b (8 * i) 8 → set l i x ≡ numbers (i + 1) b ++ drop (i + 1) l₀
+read_turn b l₀ l i x under done e =
+    rw (done, add-one i, numbers_snoc i b, drop-cons l₀ i 0 under, e)
+    (set_at (numbers i b) (get_or l₀ i 0) (drop (suc i) l₀) (number_at b (8 * i) 8) i (numbers_length i b)
+    ∙ sym (append_snoc (numbers i b) (number_at b (8 * i) 8) (drop (suc i) l₀)))

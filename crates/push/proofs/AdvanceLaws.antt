@@ -1,20 +1,21 @@
 -- One step of a push in the lists: that it can be made, and that it leaves one result.
 -- Assumes nothing.
 --
---   advance_shiftable, advance_unmarkable, advance_markable_back   what `shift`, `unmark` and `mark` ask for
---   advanced                              what they leave together
+--   advance_shiftable                     what `shift` asks for
+--   advance_from, advance_to              two nodes have masks
+--   advanced                              what is left with the masks of both ways
 --   shifted_size                          the work list keeps its length
 --   advanced_unique                       two results of one step are equal
 use mathlib.Core.Path.{◌≡◌, sym, ap, ◌∙◌}
 use mathlib.Core.Logic.{◌⊎◌, inl, inr, ◌≢◌}
 use mathlib.Core.List.{List}
-use Prim.Native.Nat.{ℕ, ◌+◌, ◌-◌, ◌*◌, ◌/◌}
+use Prim.Native.Nat.{ℕ, ◌+◌, ◌-◌, ◌*◌, ◌/◌, ◌<◌}
 use native.Mathlib.Decide.{ℕ_discrete}
 use native.Mathlib.Omega.{arith}
 use lib.ListN.{length, length-set}
 use Rattle.search.specs.Masks.{at}
 use Rattle.push.specs.Reading.{reads}
-use Rattle.push.specs.Advance.{Shiftable, Shifted, Markable, Unmarkable, with_step, without_step, Advanceable, Advanced}
+use Rattle.push.specs.Advance.{Shiftable, Shifted, with_step, without_step, Advanceable, Advanced}
 use Rattle.push.specs.Advance.Shifted.{drops, rises, along, against}
 use Rattle.push.proofs.ReadLaws.{read_drops, read_rises, read_along, read_against}
 
@@ -32,35 +33,18 @@ module _ (costs : List ℕ) (wide : ℕ) (F G S : List ℕ) (a b d : ℕ) (A : A
     lifted = λ e o. omega (arith, A.allowed, read_against costs wide F G a b e o);
   }
 
-  pub advance_markable : Markable a b S
-  advance_markable = record { from = omega (arith, A.readable.from, A.readable.few); to = omega (arith, A.readable.to, A.readable.few); masks = A.masks }
+  pub advance_from : a < 128
+  advance_from = omega (arith, A.readable.from, A.readable.few)
 
-  pub advance_unmarkable : Unmarkable a b S
-  advance_unmarkable = record { markable = advance_markable; there = A.there }
+  pub advance_to : b < 128
+  advance_to = omega (arith, A.readable.to, A.readable.few)
 
-  -- the masks after the branch: without the step where its room is used up
-  abbrev pub Branched : ℕ → List ℕ → Type 0
-  Branched x S₁ = ((x ≡ d) × (S₁ ≡ without_step S a b)) ⊎ ((x ≢ d) × (S₁ ≡ S))
-
-  module _ (x : ℕ) (S₁ : List ℕ) (K : Branched x S₁) where
-    pub advance_markable_back : Markable b a S₁
-    unfolding without_step
-    advance_markable_back = record { from = omega (arith, A.readable.to, A.readable.few); to = omega (arith, A.readable.from, A.readable.few); masks = go K }
-      where
-        go : ((x ≡ d) × (S₁ ≡ without_step S a b)) ⊎ ((x ≢ d) × (S₁ ≡ S)) → length S₁ ≡ 128
-        go (inl k) = ap length k.1 ∙ length-set S a _ ∙ A.masks
-        go (inr k) = ap length k.1 ∙ A.masks
-
-    pub advanced : x ≡ reads costs wide F G a b → (F' G' S' : List ℕ) → Shifted (length costs) a b d F G F' G' → S' ≡ with_step S₁ b a → Advanced costs wide a b d F G S F' G' S'
-    advanced ex F' G' S' H B = record { shifted = H; filled = λ q. B ∙ ap (λ (m : List ℕ). with_step m b a) (full (ex ∙ q) K); partly = λ q. B ∙ ap (λ (m : List ℕ). with_step m b a) (part (λ z. q (sym ex ∙ z)) K) }
-      where
-        full : x ≡ d → ((x ≡ d) × (S₁ ≡ without_step S a b)) ⊎ ((x ≢ d) × (S₁ ≡ S)) → S₁ ≡ without_step S a b
-        full e (inl k) = k.1
-        full e (inr k) = absurd (k.0 e)
-
-        part : x ≢ d → ((x ≡ d) × (S₁ ≡ without_step S a b)) ⊎ ((x ≢ d) × (S₁ ≡ S)) → S₁ ≡ S
-        part e (inl k) = absurd (e k.0)
-        part e (inr k) = k.1
+  -- x is the room of the step, and S₁ the masks after the branch: without the step where its room is used up
+  module _ (x : ℕ) (S₁ : List ℕ) (ex : x ≡ reads costs wide F G a b) where
+    pub advanced : ((x ≡ d) × (S₁ ≡ without_step S a b)) ⊎ ((x ≢ d) × (S₁ ≡ S)) → (F' G' S' : List ℕ) → Shifted (length costs) a b d F G F' G' → S' ≡ with_step S₁ b a
+        → Advanced costs wide a b d F G S F' G' S'
+    advanced (inl (e, m)) F' G' S' H B = record { shifted = H; filled = λ q. B ∙ ap (λ (s : List ℕ). with_step s b a) m; partly = λ q. absurd (q (sym ex ∙ e)) }
+    advanced (inr (n, m)) F' G' S' H B = record { shifted = H; filled = λ q. absurd (n (ex ∙ q)); partly = λ q. B ∙ ap (λ (s : List ℕ). with_step s b a) m }
 
 pub shifted_size : (n a b d : ℕ) (F G F' G' : List ℕ) → Shifted n a b d F G F' G' → length F' ≡ length F
 shifted_size n a b d F G F' G' (drops e o f g) = ap length f

@@ -9,9 +9,9 @@
 --   amount_unique, pushed_unique, rounded_unique
 --                                    two results are equal
 use mathlib.Core.Path.{◌≡◌, refl, sym, ap, ◌∙◌, subst}
-use mathlib.Core.Logic.{◌≢◌}
+use mathlib.Core.Logic.{◌≢◌, ◌⊎◌, inl, inr}
 use mathlib.Core.List.{List, [], ◌∷◌, ◌++◌, append-nil}
-use Prim.Native.Nat.{ℕ, ◌<◌, ◌≤◌, min}
+use Prim.Native.Nat.{ℕ, ◌<◌, ◌≤◌, ◌-◌, ◌^◌, min}
 use native.Mathlib.Nat.{le_refl}
 use native.Mathlib.Omega.{arith}
 use lib.ListN.{length}
@@ -60,49 +60,51 @@ pub record Climbing (costs : List ℕ) (wide : ℕ) (F G qs ps : List ℕ) (e i 
   pub given : Measurable costs wide F G qs ps e
   pub behind : List ℕ
   pub climb : Climb qs ps e given.nodes i behind
-  pub most : Most (reads costs wide F G) (at qs i) behind d
+  -- at the sink no step is behind, and d is the largest number of 64 bits
+  pub most : ((i ≡ e) × (behind ≡ []) × (d ≡ 2 ^ 64 - 1)) ⊎ Most (reads costs wide F G) (at qs i) behind d
 
-module _ (costs : List ℕ) (wide : ℕ) (F G qs ps : List ℕ) (e : ℕ) (M : Measurable costs wide F G qs ps e) where
-  start : Climb qs ps e M.nodes e []
-  start = climb_start qs ps e M.nodes M.way
-
-  pub amount_earlier : at ps e < e
-  amount_earlier = climb_earlier qs ps e M.nodes e [] start M.way.some
-
-  pub amount_first : Readable costs wide F G (at qs (at ps e)) (at qs e)
-  amount_first = M.steps e [] (climb_on qs ps e M.nodes e [] start M.way.some)
-
-  pub amount_start : (d : ℕ) → d ≡ reads costs wide F G (at qs (at ps e)) (at qs e) → Climbing costs wide F G qs ps e (at ps e) d
-  amount_start d ed = record {
-    given = M;
-    behind = at qs e ∷ [];
-    climb = climb_up qs ps e M.nodes e [] start M.way.some;
-    most = subst (λ (x : ℕ). Most (reads costs wide F G) (at qs (at ps e)) (at qs e ∷ []) x) (sym ed) (most_one (reads costs wide F G) (at qs (at ps e)) (at qs e));
-  }
+pub amount_start : (costs : List ℕ) (wide : ℕ) (F G qs ps : List ℕ) (e : ℕ) → Measurable costs wide F G qs ps e → Climbing costs wide F G qs ps e e (2 ^ 64 - 1)
+amount_start costs wide F G qs ps e M = record { given = M; behind = []; climb = climb_start qs ps e M.nodes M.way; most = inl (refl, refl, refl) }
 
 module _ (costs : List ℕ) (wide : ℕ) (F G qs ps : List ℕ) (e i d : ℕ) (K : Climbing costs wide F G qs ps e i d) where
   module _ (n : i ≢ 0) where
-    pub amount_up : at ps i < i
-    amount_up = climb_earlier qs ps e K.given.nodes i K.behind K.climb n
-
     pub amount_step : Readable costs wide F G (at qs (at ps i)) (at qs i)
     amount_step = K.given.steps i K.behind (climb_on qs ps e K.given.nodes i K.behind K.climb n)
 
-    pub amount_more : (d' : ℕ) → d' ≡ min (reads costs wide F G (at qs (at ps i)) (at qs i)) d → Climbing costs wide F G qs ps e (at ps i) d'
-    amount_more d' ed = record {
+    abbrev room : ℕ
+    room = reads costs wide F G (at qs (at ps i)) (at qs i)
+
+    pub amount_more : (x : ℕ) → x ≡ room → x < 2 ^ 64 → Climbing costs wide F G qs ps e (at ps i) (min d x)
+    amount_more x ex small = record {
       given = K.given;
       behind = at qs i ∷ K.behind;
       climb = climb_up qs ps e K.given.nodes i K.behind K.climb n;
-      most = subst (λ (x : ℕ). Most (reads costs wide F G) (at qs (at ps i)) (at qs i ∷ K.behind) x) (sym ed)
-          (most_more (reads costs wide F G) (at qs (at ps i)) (at qs i) K.behind d K.most);
+      most = inr (go K.most);
     }
+      where
+        r : ℕ → ℕ → ℕ
+        r = reads costs wide F G
+
+        go : ((i ≡ e) × (K.behind ≡ []) × (d ≡ 2 ^ 64 - 1)) ⊎ Most (reads costs wide F G) (at qs i) K.behind d
+            → Most (reads costs wide F G) (at qs (at ps i)) (at qs i ∷ K.behind) (min d x)
+        go (inl (_, sink, full)) =
+            let same : room ≡ min d x = omega (arith, ex, small, full) in
+            subst (λ (q : List ℕ). Most (reads costs wide F G) (at qs (at ps i)) (at qs i ∷ q) (min d x)) (sym sink)
+            (subst (λ (y : ℕ). Most (reads costs wide F G) (at qs (at ps i)) (at qs i ∷ []) y) same (most_one (reads costs wide F G) (at qs (at ps i)) (at qs i)))
+        go (inr m) =
+            let same : min room d ≡ min d x = omega (arith, ex) in
+            subst (λ (y : ℕ). Most (reads costs wide F G) (at qs (at ps i)) (at qs i ∷ K.behind) y) same
+            (most_more (reads costs wide F G) (at qs (at ps i)) (at qs i) K.behind d m)
 
   pub amount_end : i ≡ 0 → Amount costs wide F G qs ps e d
-  amount_end z = record {
-    most = λ p l.
-        let same : K.behind ≡ p = sym (climb_end qs ps e K.given.nodes i K.behind K.climb z) ∙ leads_same qs ps e K.given.nodes p K.given.way.leads l in
-        subst (λ (x : List ℕ). Most (reads costs wide F G) (at qs 0) x d) same (subst (λ (x : ℕ). Most (reads costs wide F G) (at qs x) K.behind d) z K.most);
-  }
+  amount_end z = record { most = λ p l. (let same : K.behind ≡ p = behind l in subst (λ (q : List ℕ). Most (reads costs wide F G) (at qs 0) q d) same (go K.most)) }
+    where
+      behind : {p : List ℕ} → Leads qs ps e p → K.behind ≡ p
+      behind {p} l = sym (climb_end qs ps e K.given.nodes i K.behind K.climb z) ∙ leads_same qs ps e K.given.nodes p K.given.way.leads l
+
+      go : ((i ≡ e) × (K.behind ≡ []) × (d ≡ 2 ^ 64 - 1)) ⊎ Most (reads costs wide F G) (at qs i) K.behind d → Most (reads costs wide F G) (at qs 0) K.behind d
+      go (inl (first, _, _)) = absurd (K.given.way.some (sym first ∙ z))
+      go (inr m) = subst (λ (x : ℕ). Most (reads costs wide F G) (at qs x) K.behind d) z m
 
 -- ---- the push
 
@@ -120,6 +122,9 @@ module _ (costs : List ℕ) (wide : ℕ) (F G S qs ps : List ℕ) (e d i : ℕ) 
   module _ (n : i ≢ 0) where
     pub push_up : at ps i < i
     push_up = climb_earlier qs ps e K.given.nodes i K.behind K.climb n
+
+    pub push_inside : at ps i < 128
+    push_inside = omega (arith, push_up, K.climb.low, K.climb.way.place)
 
     pub push_step : Advanceable costs wide F₁ G₁ S₁ (at qs (at ps i)) (at qs i) d
     push_step = K.given.steps i K.behind F₁ G₁ S₁ (climb_on qs ps e K.given.nodes i K.behind K.climb n) K.pushed

@@ -2,7 +2,6 @@
 --
 --   Shiftable n F G a b d                         the flow on the step's arc can take d more, or d less where the step goes back
 --   Shifted n a b d F G F' G'                     it has: drops and rises are the arc of a job, against and along it; along and against are a wait
---   Markable a b S, Unmarkable a b S              two nodes, and 128 masks; masks that have the step from a to b
 --   with_step S a b, without_step S a b             the masks with and without the step from a to b
 --   Advanceable costs wide F G S a b d            the step has room for d, and the masks have it
 --   Advanced costs wide a b d F G S F' G' S'      d is pushed along it: the step has room no more where d was all of it, and the step back has room
@@ -29,19 +28,10 @@ pub data Shifted (n a b d : ℕ) (F G F' G' : List ℕ) : Type 0 where
   along : a / 2 ≢ b / 2 → a % 2 ≡ 1 → F' ≡ set F (a / 2 * n + b / 2) (at F (a / 2 * n + b / 2) + d) → G' ≡ G → Shifted n a b d F G F' G'
   against : a / 2 ≢ b / 2 → a % 2 ≢ 1 → F' ≡ set F (b / 2 * n + a / 2) (at F (b / 2 * n + a / 2) - d) → G' ≡ G → Shifted n a b d F G F' G'
 
-pub record Markable (a b : ℕ) (S : List ℕ) : Type 0 where
-  pub from : a < 128
-  pub to : b < 128
-  pub masks : length S ≡ 128
-
-pub record Unmarkable (a b : ℕ) (S : List ℕ) : Type 0 where
-  pub markable : Markable a b S
-  pub there : Has (at S a) (b / 2)
-
 unfoldable pub with_step : List ℕ → ℕ → ℕ → List ℕ
 with_step S a b = set S a (bit_or (at S a) (2 ^ (b / 2)))
 
--- of masks that have it (`Unmarkable`)
+-- of masks that have it (`Advanceable`)
 unfoldable pub without_step : List ℕ → ℕ → ℕ → List ℕ
 without_step S a b = set S a (bit_xor (at S a) (2 ^ (b / 2)))
 

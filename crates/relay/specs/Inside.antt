@@ -2,16 +2,19 @@
 -- rows, costs, work and answer are lists of bytes, rowList, costList and flows lists of numbers, τ is the timed-out job; n is the number of rows.
 --
 --   Lent ..                         lists of bytes as refusals 1 to 3 leave them, with lists of numbers for n rows and n costs
---   Started .. k x work' answer'    how a call starts: it is answered by k, and x is 0, or a ring passes through T, x is X, and the numbers are read
+--   Ahead .. x                      the numbers are read, the call is not refused, a ring passes through T, and x is X
+--   Started .. r work' answer'      how a call starts: it is refused or answered, or with r the X of a ring ahead nothing is written
 --   Opened .. work' answer'         a decision on lists of numbers, and its bytes written
-use Rattle.std.specs.Prelude.{◌≡◌, true, List, ◌++◌, ℕ, ◌*◌, ◌/◌, length, drop}
+use Rattle.std.specs.Prelude.{◌≡◌, true, List, ◌++◌, ℕ, ◌*◌, ◌/◌, length, drop, Option, Some, None, Result, Ok, Err}
 use Rattle.bits.specs.Mask.{MaskOf}
 use Rattle.graph.specs.Waits.{waits}
 use Rattle.graph.specs.Rings.{InX, RingThrough}
+use Rattle.reasons.specs.declared.Reason.{Reason}
+use Rattle.reasons.specs.Numbers.{reason_number}
 use Rattle.codec.specs.Frame.{answer_bytes}
 use Rattle.lists.specs.Numbers.{numbers_of, all_bytes}
 use Rattle.verdict.specs.declared.Decision.{Decision}
-use Rattle.verdict.specs.declared.Answer.TheVariants.{Decided}
+use Rattle.verdict.specs.Results.Answer.{Decided}
 use Rattle.checks.specs.Refusals.{Faultless}
 use Rattle.verdict.specs.Called.{Called}
 use Rattle.framed.specs.Framed.{frame_of}
@@ -23,12 +26,17 @@ pub record Lent (rows costs rowList costList work answer : List ℕ) : Type 0 wh
   pub row_places : length rowList ≡ length rows / 8
   pub cost_places : length costList ≡ length rows / 8
 
-pub data Started (rows costs : List ℕ) (τ : ℕ) (work answer rowList costList : List ℕ) : ℕ → ℕ → List ℕ → List ℕ → Type 0 where
-  over : (k : ℕ) (work' answer' : List ℕ) → ((allowance : ℕ) → Entered rows costs τ allowance work answer k work' answer')
-      → Started rows costs τ work answer rowList costList k 0 work' answer'
-  ahead : (x : ℕ) → rowList ≡ numbers_of rows → costList ≡ numbers_of costs → Faultless rowList costList τ (length rowList * length rowList)
-      → MaskOf (InX (waits rowList) (length rowList) τ) x → RingThrough (waits rowList) (length rowList) τ true
-      → Started rows costs τ work answer rowList costList 0 x work answer
+pub record Ahead (rows costs : List ℕ) (τ : ℕ) (rowList costList : List ℕ) (x : ℕ) : Type 0 where
+  pub row_numbers : rowList ≡ numbers_of rows
+  pub cost_numbers : costList ≡ numbers_of costs
+  pub faultless : Faultless rowList costList τ (length rowList * length rowList)
+  pub exact : MaskOf (InX (waits rowList) (length rowList) τ) x
+  pub ring : RingThrough (waits rowList) (length rowList) τ true
+
+abbrev pub Started : List ℕ → List ℕ → ℕ → ℕ → List ℕ → List ℕ → List ℕ → List ℕ → Result (Option ℕ) Reason → List ℕ → List ℕ → Type 0
+Started rows costs τ allowance work answer rowList costList (Err reason) work' answer' = Entered rows costs τ allowance work answer (reason_number reason) work' answer'
+Started rows costs τ allowance work answer rowList costList (Ok None) work' answer' = Entered rows costs τ allowance work answer 0 work' answer'
+Started rows costs τ allowance work answer rowList costList (Ok (Some x)) work' answer' = Ahead rows costs τ rowList costList x × (work' ≡ work) × (answer' ≡ answer)
 
 pub record Opened (rowList costList : List ℕ) (τ allowance : ℕ) (flows work answer work' answer' : List ℕ) : Type 0 where
   pub decision : Decision

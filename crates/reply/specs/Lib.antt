@@ -1,1 +1,2 @@
 pub mod Replied
+pub mod Results

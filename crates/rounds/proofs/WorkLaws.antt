@@ -3,22 +3,19 @@
 --
 --   cleared_accepted    a call without faults is accepted on the cleared list
 --   flowed_cleared      the rounds on the cleared list are rounds on the list before
---   faultless_flows     the flows can be written
---   flows_kept          a list whose first n places were lent to the rounds has n places or more
-use mathlib.Core.Path.{◌≡◌, ◌∙◌}
-use mathlib.Core.Bool.{Bool}
-use mathlib.Core.List.{List, ◌++◌}
-use Prim.Native.Nat.{ℕ, ◌*◌, ◌<◌, ◌≤◌}
-use native.Mathlib.Omega.{arith}
-use lib.ListN.{length, length-append}
+--   unrefused_faultless a call that is not refused has no fault
+use Rattle.std.proofs.Common.{◌≡◌, ◌∙◌, Bool, false, List, ℕ, length, Result, Ok, Err, refl}
+use Rattle.std.specs.Result.{is_err}
+use Rattle.reasons.specs.declared.Reason.{Reason}
+use Rattle.reasons.specs.Numbers.{refusal_number}
 use Rattle.bits.specs.Mask.{MaskOf}
 use Rattle.graph.specs.Waits.{waits}
 use Rattle.graph.specs.Rings.{InX}
 use Rattle.flow.specs.Accepted.{Accepted}
 use Rattle.sheet.specs.Cleared.{Cleared}
 use Rattle.flow.specs.Flowed.{Flowed}
-use Rattle.checks.specs.Refusals.{Faultless}
-use Rattle.checks.proofs.RefusalLaws.{faultless_some, faultless_few, faultless_size}
+use Rattle.checks.specs.Refusals.{Due, Faultless}
+use Rattle.checks.proofs.RefusalLaws.{due_none}
 use Rattle.verdict.proofs.DecideLaws.{decide_accepted, cleared_faultless}
 
 module _ (rows costs : List ℕ) (τ x : ℕ) (old before : List ℕ) (C : Cleared (length rows) old before) where
@@ -37,10 +34,8 @@ module _ (rows costs : List ℕ) (τ x : ℕ) (old before : List ℕ) (C : Clear
     rest = λ i l. F.rest i l ∙ C.rest i l;
   }
 
-pub faultless_flows : (rows costs : List ℕ) (τ places k : ℕ) → Faultless rows costs τ places → places ≡ k → (0 < length rows) × (length rows ≤ 64) × (length rows * length rows ≤ k)
-faultless_flows rows costs τ places k F e =
-    (faultless_some rows costs τ places F, faultless_few rows costs τ places F, omega (arith, faultless_size rows costs τ places F))
-
-pub flows_kept : (rows costs : List ℕ) (τ x allowance : ℕ) (before after : List ℕ) (k : ℕ) (left : Bool) (ins outs n : ℕ) (rest : List ℕ)
-    → Flowed rows costs τ x allowance before after k left ins outs → n ≡ length before → n ≤ length (after ++ rest)
-flows_kept rows costs τ x allowance before after k left ins outs n rest F e = omega (arith, length-append after rest, F.size)
+-- a call that is not refused has no fault
+pub unrefused_faultless : {rows costs : List ℕ} {τ places : ℕ} (r : Result (Unit {0}) Reason) (refused : Bool) → Due rows costs τ places (refusal_number r) → refused ≡ is_err r → refused ≡ false
+    → Faultless rows costs τ places
+unrefused_faultless (Ok done) refused D e f = due_none _ _ _ _ _ D refl
+unrefused_faultless (Err reason) refused D e f = absurd (cc)

@@ -7,7 +7,7 @@
 --   found_met               so it is where the sink is the last node met
 --   Chain P e i cs          cs has the places after i, each the parent of the next, down to e
 --   chain_taken             the nodes of a chain from place 0 are the path that a round takes
-use mathlib.Core.Path.{◌≡◌, refl, sym, ap, ◌∙◌, subst}
+use mathlib.Core.Path.{◌≡◌, sym, ap, ◌∙◌, subst}
 use mathlib.Core.Logic.{◌⊎◌, inl, inr, ◌≢◌}
 use mathlib.Core.Bool.{Bool}
 use mathlib.Core.List.{List, [], ◌∷◌, map}
@@ -17,6 +17,7 @@ use native.Mathlib.Decide.{ℕ_discrete, dec_lt}
 use native.Mathlib.Omega.{arith}
 use lib.Dec.{T}
 use lib.ListN.{length}
+use Rattle.std.proofs.lemmas.List.{length-map}
 use Rattle.walks.specs.Walk.{Walk}
 use Rattle.network.specs.Rooms.{Room, step}
 use Rattle.network.specs.Paths.{Before, Taken}
@@ -111,10 +112,6 @@ module _ (st : ℕ → ℕ → Bool) (N s t e : ℕ) (Q P : ℕ → ℕ) (F : Fo
   chain_walk i [] c = ap Q c ∙ F.goal
   chain_walk i (j ∷ cs) c = (F.inside j c.2, subst (λ (z : ℕ). T (st (Q z) (Q j))) c.0 (F.along j c.1 c.2), chain_walk j cs c.3)
 
-  map_length : (cs : List ℕ) → length (map Q cs) ≡ length cs
-  map_length [] = refl
-  map_length (c ∷ cs) = ap suc (map_length cs)
-
   chain_first : (i : ℕ) (cs : List ℕ) → Chain P e i cs → (q : List ℕ) → Walk st N (Q i) t q → length q ≡ length cs → Before (map Q cs) q
   chain_first i [] c q w h = tt
   chain_first i (j ∷ cs) c [] w h = absurd (omega arith)
@@ -150,7 +147,7 @@ module _ (st : ℕ → ℕ → Bool) (N s t e : ℕ) (Q P : ℕ → ℕ) (F : Fo
 
   -- THE SEARCH FINDS THE ROUND'S PATH
   pub chain_shortest : (cs : List ℕ) → Chain P e 0 cs → (q : List ℕ) → Walk st N s t q → length (map Q cs) ≤ length q
-  chain_shortest cs c q w = omega (arith, map_length cs, go cs c)
+  chain_shortest cs c q w = omega (arith, length-map cs Q, go cs c)
     where
       w' : Walk st N (Q 0) t q
       w' = subst (λ (z : ℕ). Walk st N z t q) (sym F.start) w
@@ -164,5 +161,5 @@ chain_taken r N s t e Q P F cs c = record {
   walk = subst (λ (z : ℕ). Walk (step r) N z t (map Q cs)) F.start (chain_walk (step r) N s t e Q P F 0 cs c);
   shortest = λ q w. chain_shortest (step r) N s t e Q P F cs c q w;
   first = λ q w h. chain_first (step r) N s t e Q P F 0 cs c q (subst (λ (z : ℕ). Walk (step r) N z t q) (sym F.start) w)
-      (h ∙ map_length (step r) N s t e Q P F cs);
+      (h ∙ length-map cs Q);
 }

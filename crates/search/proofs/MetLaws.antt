@@ -3,7 +3,8 @@
 --
 --   met_same         two orders in breadth agree as far as both go
 --   sought_unique    two results of a search from the same lists are equal
-use mathlib.Core.Path.{◌≡◌, sym, ap, ◌∙◌, subst}
+--   searched_unique  and so are two answers of it
+use mathlib.Core.Path.{◌≡◌, refl, sym, ap, ◌∙◌, subst}
 use mathlib.Core.Logic.{◌⊎◌, inl, inr}
 use mathlib.Core.Bool.{Bool}
 use mathlib.Core.List.{List}
@@ -11,11 +12,13 @@ use Prim.Native.Nat.{ℕ, zero, suc, ◌<◌, ◌≤◌}
 use native.Mathlib.Nat.{le_refl}
 use native.Mathlib.Decide.{ℕ_discrete, dec_lt}
 use native.Mathlib.Omega.{arith}
+use Rattle.std.proofs.Common.{Option, None, Some}
 use lib.Dec.{T}
 use lib.Seq.{ext_get_or}
 use Rattle.network.specs.Rooms.{step}
 use Rattle.search.specs.Masks.{at, masked}
 use Rattle.search.specs.Sought.{Met, Sought}
+use Rattle.search.specs.Searched.{Searched}
 
 -- ---- two orders in breadth
 
@@ -159,3 +162,14 @@ module _ (steps : List ℕ) (s t : ℕ) (qs₀ ps₀ qs ps qs' ps' : List ℕ) (
       parents i l (yes z) = ap (at ps) z ∙ A.lists.parent_first ∙ sym B.lists.parent_first ∙ ap (at ps') (sym z)
       parents i (yes l) (no z) = (common i l (omega (arith, counts.1))).1 (omega arith)
       parents i (no l) (no z) = A.lists.parent_rest i (omega arith) ∙ sym (B.lists.parent_rest i (omega (arith, counts.1)))
+
+pub searched_unique : (steps : List ℕ) (s t : ℕ) (qs₀ ps₀ qs ps qs' ps' : List ℕ) (r r' : Option ℕ)
+    → Searched steps s t qs₀ ps₀ qs ps r → Searched steps s t qs₀ ps₀ qs' ps' r' → (r ≡ r') × (qs ≡ qs') × (ps ≡ ps')
+searched_unique steps s t qs₀ ps₀ qs ps qs' ps' None None A B =
+    let u = sought_unique steps s t qs₀ ps₀ qs ps qs' ps' 0 0 A B in (refl, u.queue, u.parent)
+searched_unique steps s t qs₀ ps₀ qs ps qs' ps' None (Some e) A B =
+    let u = sought_unique steps s t qs₀ ps₀ qs ps qs' ps' 0 e A B.1 in absurd (omega (arith, u.place, B.0))
+searched_unique steps s t qs₀ ps₀ qs ps qs' ps' (Some e) None A B =
+    let u = sought_unique steps s t qs₀ ps₀ qs ps qs' ps' e 0 A.1 B in absurd (omega (arith, u.place, A.0))
+searched_unique steps s t qs₀ ps₀ qs ps qs' ps' (Some e) (Some e') A B =
+    let u = sought_unique steps s t qs₀ ps₀ qs ps qs' ps' e e' A.1 B.1 in (ap Some u.place, u.queue, u.parent)

@@ -123,20 +123,20 @@ module _ (steps : List ℕ) (s t : ℕ) (qs ps fr : List ℕ) (m h : ℕ) (O : O
   pub outer_end : m ≤ h → (p : List ℕ) → Walk (step (masked steps)) 128 s t p → ⊥
   outer_end l p w = keep_end (step (masked steps)) 128 s t m h 0 (at qs) (at ps) (Free fr) O.keep l p w
 
-  pub outer_sought : m ≤ h → (e : ℕ) → e ≡ 0 → (qs₀ ps₀ : List ℕ) → Since 1 m qs₀ ps₀ qs ps → Sought steps s t qs₀ ps₀ qs ps e
-  outer_sought l e z qs₀ ps₀ R = record {
+  pub outer_sought : m ≤ h → (qs₀ ps₀ : List ℕ) → Since 1 m qs₀ ps₀ qs ps → Sought steps s t qs₀ ps₀ qs ps 0
+  outer_sought l qs₀ ps₀ R = record {
     queue = O.sizes.queue;
     parent = O.sizes.parent;
     place = omega arith;
     none = λ q. outer_end l;
-    found = λ q. absurd (q z);
+    found = λ q. absurd (q refl);
     lists = record {
       met = m;
       head = h;
       next = 0;
       places = keep_so_far (step (masked steps)) 128 s t m h 0 (at qs) (at ps) (Free fr) O.keep;
       some = (let q = R.grown in omega arith);
-      ended = inl (z, (let q = O.most in omega arith));
+      ended = inl (refl, (let q = O.most in omega arith));
       before = λ i q n. O.keep.scan.lacks i q;
       queue_rest = R.queue;
       parent_rest = R.parent;

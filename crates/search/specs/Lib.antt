@@ -1,2 +1,3 @@
 pub mod Masks
 pub mod Sought
+pub mod Searched

@@ -12,24 +12,18 @@ pub fn clear(work: &mut [u64], n: usize)
     requires { (n ≤ 64) × (n * n ≤ length work.old) }
     ensures { Cleared n work.old work.new }
 {
-    let end = n * n;
-    let mut i = 0;
-    while i < end {
-        work[i] = 0;
-        i += 1;
-    }
+    work[..n * n].fill(0);
 }
 
 // What flows into job u of n jobs.
+#[tactic(auto, using(crate::proofs::InflowLaws::inflow_laws))]
 pub fn inflow(work: &[u64], n: usize, u: usize) -> u64
     requires { Summable work.now n u }
     ensures { result ≡ inflow_of work.now n u }
 {
-    let mut sum = 0u64;
-    let mut v = 0usize;
-    while v < n {
+    let mut sum = 0;
+    for v in 0..n {
         sum += work[v * n + u];
-        v += 1;
     }
     sum
 }

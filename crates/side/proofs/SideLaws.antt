@@ -1,8 +1,12 @@
 -- The loop of `sink_side`: its invariant, one law for each way through it, and that two results are equal.
 -- Assumes nothing.
 --
---   Siding                         ins and outs are parts of the sink's side; outs has all out-nodes with a step to ins, and fresh the in-nodes with a step to outs that are not in ins
---   side_places, side_others, side_start, side_grow, side_turn, side_end
+--   Siding                         ins and outs are parts of the sink's side
+--   Shut                           outs has all out-nodes with a step to ins
+--   side_others, side_start        a call of `gather` is allowed; the sink alone
+--   side_out, side_shut            outs gets the out-nodes with a step to ins
+--   side_grow, side_small, side_turn    ins gets what is fresh, the in-nodes with a step to outs
+--   side_end                       nothing is fresh
 --   sided_unique                   two results of `sink_side` are equal
 use mathlib.Core.Path.{◌≡◌, refl, sym, subst}
 use mathlib.Core.Logic.{◌⊎◌, inl, inr, ◌≢◌}
@@ -13,7 +17,7 @@ use native.Mathlib.Numerals.{suc-eq-add-one}
 use native.Mathlib.Omega.{arith}
 use lib.Bits.{bit_or, bit_xor, or_lt, xor_lt}
 use lib.Count.{count_trailing_zeros}
-use lib.Dec.{T}
+use lib.Dec.{T, lit<}
 use lib.ListN.{length}
 use lib.Pow.{pow-lt}
 use Rattle.bits.specs.Mask.{bit, Has, MaskOf}
@@ -40,15 +44,14 @@ pub record Siding (S : List ℕ) (t x ins outs : ℕ) : Type 0 where
   pub in_home : (u : ℕ) → Has ins u → Home S t inn u
   pub out_home : (u : ℕ) → Has outs u → Home S t out u
   pub sink : Has ins t
-  -- each out-node with a step to ins is in outs
-  pub shut : (u v : ℕ) → Has x u → Has (at S (2 * u + 1)) v → Has ins v → Has outs u
 
--- each node has its mask: those of a set of jobs, and those of the jobs that are not yet marked
-pub side_places : (S : List ℕ) (side jobs : ℕ) → length S ≡ 128 → side < 2 → jobs < 2 ^ 64 → Gatherable S 2 side jobs
-side_places S side jobs e l small = record { place = λ u h. omega (arith, e, has_below 64 jobs u small h) }
+-- each out-node with a step to ins is in outs
+abbrev pub Shut : List ℕ → ℕ → ℕ → ℕ → Type 0
+Shut S x ins outs = (u v : ℕ) → Has x u → Has (at S (2 * u + 1)) v → Has ins v → Has outs u
 
+-- each node of the jobs that are not yet marked has its mask
 pub side_others : (S : List ℕ) (side x marked : ℕ) → length S ≡ 128 → side < 2 → x < 2 ^ 64 → marked < 2 ^ 64 → Gatherable S 2 side (bit_xor x marked)
-side_others S side x marked e l small fits = side_places S side (bit_xor x marked) e l (xor_lt 64 x marked small fits)
+side_others S side x marked e l small fits = record { place = λ u h. omega (arith, e, has_below 64 (bit_xor x marked) u (xor_lt 64 x marked small fits) h) }
 
 -- a step to a node from which the sink is reached
 home_step : (S : List ℕ) (t a b : ℕ) → b < 128 → T (step (masked S) a b) → Reaches (step (masked S)) 128 b (inn t) → Reaches (step (masked S)) 128 a (inn t)
@@ -68,36 +71,61 @@ module _ (S : List ℕ) (t x : ℕ) (G : Sidable S t x) (small : x < 2 ^ 64) whe
       held : Has (at S (inn u)) (out v / 2)
       held = let e : out v / 2 ≡ v = omega arith in let f : inn u ≡ 2 * u + 0 = omega arith in subst (λ (z : ℕ). Has (at S (inn u)) z) (sym e) (subst (λ (z : ℕ). Has (at S z) v) (sym f) h)
 
-  pub side_start : (b : ℕ) → b ≡ 2 ^ t → (outs : ℕ) → MaskOf (Hits S 2 1 x b) outs → Siding S t x b outs
-  side_start b eb outs M = record {
+  pub side_start : (b : ℕ) → b ≡ 2 ^ t → Siding S t x b 0
+  side_start b eb = record {
     given = G;
     in_small = subst (λ (z : ℕ). z < 2 ^ 64) (sym eb) (pow-lt G.job);
-    out_small = M.small;
+    out_small = lit< tt;
     in_part = λ u h. subst (Has x) (sym (only u h)) G.member;
-    out_part = λ u h. (M.sound u h).member;
-    in_home = here;
-    out_home = λ u h. let k = M.sound u h in from_out u k.other k.named (here k.other k.hit) (has_below 64 x u small k.member);
+    out_part = λ u h. absurd (rest_end 0 u refl h);
+    in_home = λ u h. subst (Home S t inn) (sym (only u h)) (record { job = G.job; home = reaches_here (step (masked S)) 128 (inn t) });
+    out_home = λ u h. absurd (rest_end 0 u refl h);
     sink = subst (λ (z : ℕ). Has z t) (sym eb) (bit_pow_same t);
-    shut = λ u v m s h. M.complete u (record { member = m; other = v; named = s; hit = h });
   }
     where
       only : (u : ℕ) → Has b u → u ≡ t
       only u h = has_pow_cases t u (subst (λ (z : ℕ). Has z u) eb h)
 
-      here : (u : ℕ) → Has b u → Home S t inn u
-      here u h = subst (Home S t inn) (sym (only u h)) (record { job = G.job; home = reaches_here (step (masked S)) 128 (inn t) })
+-- ---- the out-nodes
+
+module _ (S : List ℕ) (t x ins outs : ℕ) (small : x < 2 ^ 64) (D : Siding S t x ins outs) (more : ℕ) (M : MaskOf (Hits S 2 1 (bit_xor x outs) ins) more) where
+  -- what is added is of x
+  late : (u : ℕ) → Has more u → Has x u
+  late u h = (has_xor x outs u (D.out_part u) (M.sound u h).member).0
+
+  pub side_out : Siding S t x ins (bit_or outs more)
+  side_out = record {
+    given = D.given;
+    in_small = D.in_small;
+    out_small = or_lt 64 outs more D.out_small M.small;
+    in_part = D.in_part;
+    out_part = λ u h. part u (has_or_cases outs more u h);
+    in_home = D.in_home;
+    out_home = λ u h. home u (has_or_cases outs more u h);
+    sink = D.sink;
+  }
+    where
+      part : (u : ℕ) → Has outs u ⊎ Has more u → Has x u
+      part u (inl h) = D.out_part u h
+      part u (inr h) = late u h
+
+      home : (u : ℕ) → Has outs u ⊎ Has more u → Home S t out u
+      home u (inl h) = D.out_home u h
+      home u (inr h) = let m = M.sound u h in from_out S t x D.given small u m.other m.named (D.in_home m.other m.hit) (has_below 64 x u small (late u h))
+
+  pub side_shut : Shut S x ins (bit_or outs more)
+  side_shut u v m s h = go (ℕ_discrete (bit outs u) 1)
+    where
+      go : Dec (bit outs u ≡ 1) → Has (bit_or outs more) u
+      go (yes e) = has_or_l outs more u e
+      go (no e) = has_or_r outs more u (M.complete u (record { member = xor_has x outs u m e; other = v; named = s; hit = h }))
+
+-- ---- the in-nodes
 
 module _ (S : List ℕ) (t x ins outs : ℕ) (small : x < 2 ^ 64) (D : Siding S t x ins outs) (fresh : ℕ) (M : MaskOf (Hits S 2 0 (bit_xor x ins) outs) fresh) where
   -- what is fresh is of x, and not in ins
   new : (u : ℕ) → Has fresh u → Has x u × (Has ins u → ⊥)
   new u h = has_xor x ins u (D.in_part u) (M.sound u h).member
-
-  in_home' : (u : ℕ) → Has (bit_or ins fresh) u → Home S t inn u
-  in_home' u h = go (has_or_cases ins fresh u h)
-    where
-      go : Has ins u ⊎ Has fresh u → Home S t inn u
-      go (inl k) = D.in_home u k
-      go (inr k) = let m = M.sound u k in from_in S t x D.given small u m.other m.named (D.out_home m.other m.hit) (has_below 64 x u small (new u k).0)
 
   pub side_grow : fresh ≢ 0 → ins < bit_or ins fresh
   side_grow ne = let k = (trailing_has 64 fresh M.small ne).0 in or_grows ins fresh (count_trailing_zeros 64 fresh) (new (count_trailing_zeros 64 fresh) k).1 k
@@ -105,40 +133,28 @@ module _ (S : List ℕ) (t x ins outs : ℕ) (small : x < 2 ^ 64) (D : Siding S 
   pub side_small : bit_or ins fresh < 2 ^ 64
   side_small = or_lt 64 ins fresh D.in_small M.small
 
-  pub side_turn : (more : ℕ) → MaskOf (Hits S 2 1 (bit_xor x outs) (bit_or ins fresh)) more → Siding S t x (bit_or ins fresh) (bit_or outs more)
-  side_turn more N = record {
+  pub side_turn : Siding S t x (bit_or ins fresh) outs
+  side_turn = record {
     given = D.given;
     in_small = side_small;
-    out_small = or_lt 64 outs more D.out_small N.small;
-    in_part = λ u h. ins' u (has_or_cases ins fresh u h);
-    out_part = λ u h. outs' u (has_or_cases outs more u h);
-    in_home = in_home';
-    out_home = λ u h. homes u (has_or_cases outs more u h);
+    out_small = D.out_small;
+    in_part = λ u h. part u (has_or_cases ins fresh u h);
+    out_part = D.out_part;
+    in_home = λ u h. home u (has_or_cases ins fresh u h);
+    out_home = D.out_home;
     sink = has_or_l ins fresh t D.sink;
-    shut = λ u v m s h. shuts u v m s h (ℕ_discrete (bit outs u) 1);
   }
     where
-      ins' : (u : ℕ) → Has ins u ⊎ Has fresh u → Has x u
-      ins' u (inl h) = D.in_part u h
-      ins' u (inr h) = (new u h).0
+      part : (u : ℕ) → Has ins u ⊎ Has fresh u → Has x u
+      part u (inl h) = D.in_part u h
+      part u (inr h) = (new u h).0
 
-      late : (u : ℕ) → Has more u → Has x u
-      late u h = (has_xor x outs u (D.out_part u) (N.sound u h).member).0
+      home : (u : ℕ) → Has ins u ⊎ Has fresh u → Home S t inn u
+      home u (inl h) = D.in_home u h
+      home u (inr h) = let m = M.sound u h in from_in S t x D.given small u m.other m.named (D.out_home m.other m.hit) (has_below 64 x u small (new u h).0)
 
-      outs' : (u : ℕ) → Has outs u ⊎ Has more u → Has x u
-      outs' u (inl h) = D.out_part u h
-      outs' u (inr h) = late u h
-
-      homes : (u : ℕ) → Has outs u ⊎ Has more u → Home S t out u
-      homes u (inl h) = D.out_home u h
-      homes u (inr h) = let m = N.sound u h in from_out S t x D.given small u m.other m.named (in_home' m.other m.hit) (has_below 64 x u small (late u h))
-
-      shuts : (u v : ℕ) → Has x u → Has (at S (2 * u + 1)) v → Has (bit_or ins fresh) v → Dec (bit outs u ≡ 1) → Has (bit_or outs more) u
-      shuts u v m s h (yes e) = has_or_l outs more u e
-      shuts u v m s h (no e) = has_or_r outs more u (N.complete u (record { member = xor_has x outs u m e; other = v; named = s; hit = h }))
-
-  pub side_end : fresh ≡ 0 → Sided S t ins outs
-  side_end z = record {
+  pub side_end : fresh ≡ 0 → Shut S x ins outs → Sided S t ins outs
+  side_end z shut = record {
     inns = record { small = D.in_small; sound = D.in_home; complete = λ u H. (walked (inn u) H.home.path (let l = H.job in omega arith) H.home.walk).0 u refl };
     outer = record { small = D.out_small; sound = D.out_home; complete = λ u H. (walked (out u) H.home.path (let l = H.job in omega arith) H.home.walk).1 u refl };
   }
@@ -150,7 +166,7 @@ module _ (S : List ℕ) (t x ins outs : ℕ) (small : x < 2 ^ 64) (D : Siding S 
           let m : Has x u = (let e : out u / 2 ≡ u = omega arith in subst (Has x) e (D.given.only (out u) (inn v) (omega arith) (omega arith) s)) in
           let e : inn v / 2 ≡ v = omega arith in
           let f : out u ≡ 2 * u + 1 = suc-eq-add-one (2 * u) in
-          D.shut u v m (subst (λ (z : ℕ). Has (at S z) v) f (subst (λ (z : ℕ). Has (at S (out u)) z) e k.1)) h
+          shut u v m (subst (λ (z : ℕ). Has (at S z) v) f (subst (λ (z : ℕ). Has (at S (out u)) z) e k.1)) h
 
       back_in : (u v : ℕ) → u < 64 → v < 64 → T (step (masked S) (inn u) (out v)) → Has outs v → Has ins u
       back_in u v lu lv s h = go (ℕ_discrete (bit ins u) 1)

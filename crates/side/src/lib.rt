@@ -6,7 +6,8 @@ ghost use Rattle.side.specs.Home.{Sidable, Sided};
 
 use graph::gather;
 
-#[derive(Drop)]
+// The masks of the jobs whose in-node is on the sink's side, and of those whose out-node is.
+#[derive(Clone, Copy, Debug, PartialEq, Eq)]
 pub struct Sides {
     pub ins: u64,
     pub outs: u64,
@@ -18,15 +19,13 @@ pub fn sink_side(steps: &[u64; 128], t: usize, x: u64) -> Sides
     ensures { Sided steps.now t result.ins result.outs }
 {
     let mut ins = 1u64 << t;
-    let mut outs = gather(steps, 2, 1, x, ins);
-    let mut fresh = gather(steps, 2, 0, x ^ ins, outs);
-    while fresh != 0 {
-        ins = ins | fresh;
-        outs = outs | gather(steps, 2, 1, x ^ outs, ins);
-        fresh = gather(steps, 2, 0, x ^ ins, outs);
-    }
-    Sides {
-        ins: ins,
-        outs: outs,
+    let mut outs = 0;
+    loop {
+        outs |= gather(steps, 2, 1, x ^ outs, ins);
+        let fresh = gather(steps, 2, 0, x ^ ins, outs);
+        if fresh == 0 {
+            return Sides { ins, outs };
+        }
+        ins |= fresh;
     }
 }

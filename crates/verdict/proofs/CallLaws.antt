@@ -2,12 +2,13 @@
 -- Assumes nothing.
 --
 --   flows_unique      the work list after k rounds is one
+--   answer_one        two results of a call with one answer are equal
 --   number_unique     an outcome is known by its number; outcome_number_unique: and has one
 --   call_unique       two results of a call are equal, and so are the work lists; on all inputs
 --   decided_verdict   what a call that is decided says
 --   wait_zero         "after "wait" these n × n places are 0"
 use mathlib.Core.Path.{◌≡◌, refl, sym, ap, ◌∙◌, subst}
-use mathlib.Core.List.{List}
+use mathlib.Core.List.{List, [], ◌∷◌}
 use Prim.Native.Nat.{ℕ, suc, ◌+◌, ◌*◌, ◌/◌, ◌%◌, ◌<◌}
 use native.Mathlib.Nat.{div-add-mod', div-lt_iff_lt-mul, mod-lt}
 use native.Mathlib.Omega.{arith}
@@ -30,8 +31,12 @@ use Rattle.network.specs.Costs.{cost_at}
 use Rattle.verdict.specs.declared.Outcome.{Outcome}
 use Rattle.verdict.specs.declared.Outcome.TheVariants.{Wait, AbortT, AbortOthers, NotYet}
 use Rattle.verdict.specs.declared.Decision.{Decision}
-use Rattle.verdict.specs.declared.Answer.{Answer}
-use Rattle.verdict.specs.declared.Answer.TheVariants.{Refused, Decided}
+use Rattle.std.specs.Prelude.{Result, Ok, Err}
+use Rattle.reasons.specs.declared.Reason.{Reason}
+use Rattle.reasons.specs.Numbers.{reason_number}
+use Rattle.reasons.proofs.NumberLaws.{reason_one}
+use Rattle.verdict.specs.Results.{Answer, answer_of}
+use Rattle.verdict.specs.Results.Answer.{Refused, Decided}
 use Rattle.checks.specs.Refusals.{Faultless}
 use Rattle.verdict.specs.Answers.{outcome_number, Verdict}
 use Rattle.verdict.specs.Answers.Verdict.{stays, itself, others, unfinished}
@@ -78,28 +83,31 @@ module _ (rows costs : List ℕ) (τ : ℕ) where
 
 -- ---- the outcome
 
+-- the outcomes, each at its number
+outcomes : List Outcome
+outcomes = Wait ∷ AbortT ∷ AbortOthers ∷ NotYet ∷ []
+
+outcome_back : (o : Outcome) → get_or outcomes (outcome_number o) Wait ≡ o
+unfolding outcomes
+outcome_back Wait = refl
+outcome_back AbortT = refl
+outcome_back AbortOthers = refl
+outcome_back NotYet = refl
+
 pub number_unique : (a b : Outcome) → outcome_number a ≡ outcome_number b → a ≡ b
-number_unique Wait Wait e = refl
-number_unique Wait AbortT e = absurd (omega arith)
-number_unique Wait AbortOthers e = absurd (omega arith)
-number_unique Wait NotYet e = absurd (omega arith)
-number_unique AbortT Wait e = absurd (omega arith)
-number_unique AbortT AbortT e = refl
-number_unique AbortT AbortOthers e = absurd (omega arith)
-number_unique AbortT NotYet e = absurd (omega arith)
-number_unique AbortOthers Wait e = absurd (omega arith)
-number_unique AbortOthers AbortT e = absurd (omega arith)
-number_unique AbortOthers AbortOthers e = refl
-number_unique AbortOthers NotYet e = absurd (omega arith)
-number_unique NotYet Wait e = absurd (omega arith)
-number_unique NotYet AbortT e = absurd (omega arith)
-number_unique NotYet AbortOthers e = absurd (omega arith)
-number_unique NotYet NotYet e = refl
+number_unique a b e = sym (outcome_back a) ∙ (ap (λ (k : ℕ). get_or outcomes k Wait) e ∙ outcome_back b)
 
 pub outcome_number_unique : (o : Outcome) (a b : ℕ) → a ≡ outcome_number o → b ≡ outcome_number o → a ≡ b
 outcome_number_unique o a b p q = p ∙ sym q
 
 -- ---- the call
+
+-- an answer says which result it is
+pub answer_one : (r s : Result Decision Reason) → answer_of r ≡ answer_of s → r ≡ s
+answer_one (Ok d) (Ok e) q = cc q
+answer_one (Ok d) (Err s) q = cc q
+answer_one (Err r) (Ok e) q = cc q
+answer_one (Err r) (Err s) q = let n : reason_number r ≡ reason_number s = cc q in ap Err (reason_one r s n)
 
 -- the decision of an answer
 decision_of : Decision → Answer → Decision

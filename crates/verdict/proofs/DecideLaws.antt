@@ -43,7 +43,7 @@ use Rattle.flow.specs.Flowed.Ends.{settled, unfinished as ends-unfinished}
 use Rattle.sheet.specs.Inflow.{inflow_of, Summable}
 use Rattle.verdict.specs.declared.Outcome.TheVariants.{Wait, AbortT, AbortOthers, NotYet}
 use Rattle.verdict.specs.declared.Decision.{Decision}
-use Rattle.verdict.specs.declared.Answer.TheVariants.{Decided}
+use Rattle.verdict.specs.Results.Answer.{Decided}
 use Rattle.checks.specs.Refusals.{Faultless}
 use Rattle.verdict.specs.Answers.{After, Victims, Verdict}
 use Rattle.verdict.specs.Answers.Verdict.{stays, itself, others, unfinished}

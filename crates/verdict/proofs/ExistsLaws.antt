@@ -19,8 +19,8 @@ use Rattle.checks.proofs.RefusalLaws.{faultless_few, faultless_job, faultless_ap
 use Rattle.checks.proofs.DueLaws.{due_exists}
 use Rattle.verdict.specs.declared.Outcome.TheVariants.{Wait, AbortT, AbortOthers, NotYet}
 use Rattle.verdict.specs.declared.Decision.{Decision}
-use Rattle.verdict.specs.declared.Answer.{Answer}
-use Rattle.verdict.specs.declared.Answer.TheVariants.{Refused, Decided}
+use Rattle.verdict.specs.Results.{Answer}
+use Rattle.verdict.specs.Results.Answer.{Refused, Decided}
 use Rattle.verdict.specs.Called.{Flows, Called}
 use Rattle.verdict.specs.Called.Called.{refuses, answers}
 use mathlib.Core.Bool.{Bool, true, false}

@@ -1,5 +1,6 @@
 pub mod AnswerLaws
 pub mod ExistsLaws
 pub mod DecideLaws
+pub mod RingedLaws
 pub mod CallLaws
 pub mod TableLaws

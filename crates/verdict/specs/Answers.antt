@@ -2,6 +2,7 @@
 -- w tests the waits of n jobs, τ is the timed-out job, cost the jobs' costs.
 --
 --   outcome_number o                    the document's number of an outcome: "00 wait, 01 abort T, 02 abort others, 03 not yet"
+--   not_yet k                           the decision "not yet" after k rounds: "For wait and for not yet, price and victims are 0."
 --   After w n τ cost k r               k rounds on the network of X lead to the rooms r
 --   Victims n M v                      the mask v names the jobs of the set M: "job k as 2^k"
 --   Verdict w n τ cost a o p k v       with the allowance a the verdict has the outcome o, by its number, the price p, k rounds and the victims v
@@ -14,6 +15,7 @@ use Rattle.network.specs.Rounds.{Rounds, Stuck}
 use Rattle.network.specs.Arcs.{inn, out, capacity}
 use Rattle.network.specs.Sets.{Exactly, Best, price}
 use Rattle.verdict.specs.declared.Outcome.{Outcome}
+use Rattle.verdict.specs.declared.Decision.{Decision}
 use Rattle.verdict.specs.declared.Outcome.TheVariants.{Wait, AbortT, AbortOthers, NotYet}
 
 abbrev pub outcome_number : Outcome → ℕ
@@ -21,6 +23,9 @@ outcome_number Wait = 0
 outcome_number AbortT = 1
 outcome_number AbortOthers = 2
 outcome_number NotYet = 3
+
+abbrev pub not_yet : ℕ → Decision
+not_yet k = record { outcome = NotYet; price = 0; rounds = k; victims = 0 }
 
 pub record After (w : ℕ → ℕ → Bool) (n τ : ℕ) (cost : ℕ → ℕ) (k : ℕ) (r : Room) : Type 0 where
   -- X as a test of jobs

@@ -11,8 +11,8 @@ use Rattle.network.specs.Rooms.{Room}
 use Rattle.network.specs.Arcs.{flow_on, within}
 use Rattle.network.specs.Costs.{cost_at}
 use Rattle.verdict.specs.declared.Decision.{Decision}
-use Rattle.verdict.specs.declared.Answer.{Answer}
-use Rattle.verdict.specs.declared.Answer.TheVariants.{Refused, Decided}
+use Rattle.verdict.specs.Results.{Answer}
+use Rattle.verdict.specs.Results.Answer.{Refused, Decided}
 use Rattle.checks.specs.Refusals.{Refusal, Faultless}
 use Rattle.verdict.specs.Answers.{outcome_number, After, Verdict}
 

@@ -6,33 +6,52 @@
 #![tactic(auto)]
 
 ghost use Rattle.std.specs.Prelude.{◌≡◌};
-ghost use Rattle.verdict.specs.Answers.{outcome_number};
+ghost use Rattle.verdict.specs.Answers.{outcome_number, not_yet};
+ghost use Rattle.verdict.specs.Results.{answer_of};
+ghost use Rattle.verdict.specs.Results.Answer.{Decided};
 ghost use Rattle.verdict.specs.Called.{Ringed, Called};
-ghost use Rattle.verdict.specs.declared.Answer.TheVariants.{Decided as Answer-as-Decided};
 
-// What to do.
-#[derive(Drop)]
+use calls::Call;
+use reasons::Reason;
+use std::fmt;
+
+// What to do, with the document's numbers.
+#[derive(Clone, Copy, Debug, PartialEq, Eq)]
 pub enum Outcome {
-    Wait,
-    AbortT,
-    AbortOthers,
-    NotYet,
+    Wait = 0,
+    AbortT = 1,
+    AbortOthers = 2,
+    NotYet = 3,
 }
 
-// The document's number of an outcome.
-pub fn outcome_number(outcome: Outcome) -> u8
-    ensures { result ≡ outcome_number outcome }
-{
-    match outcome {
-        Outcome::Wait => 0,
-        Outcome::AbortT => 1,
-        Outcome::AbortOthers => 2,
-        Outcome::NotYet => 3,
+impl From<Outcome> for u8 {
+    ghost from_gives = { λ outcome number. number ≡ outcome_number outcome };
+
+    fn from(outcome: Outcome) -> u8
+        ensures { result ≡ outcome_number outcome }
+    {
+        outcome as u8
+    }
+}
+
+impl fmt::Display for Outcome {
+    ghost use Rattle.std.specs.Prelude.{Some};
+    ghost use Rattle.verdict.specs.Words.{outcome_word};
+
+    ghost output = { λ outcome. Some (outcome_word outcome) };
+
+    fn fmt<W: fmt::Write>(&self, f: &mut fmt::Formatter<W>) -> fmt::Result {
+        f.write_str(match self {
+            Outcome::Wait => "wait",
+            Outcome::AbortT => "abort-t",
+            Outcome::AbortOthers => "abort-others",
+            Outcome::NotYet => "not-yet",
+        })
     }
 }
 
 // The verdict on an accepted input: victims as a mask, job k as 2^k.
-#[derive(Drop)]
+#[derive(Clone, Copy, Debug, PartialEq, Eq)]
 pub struct Decision {
     pub outcome: Outcome,
     pub price: u64,
@@ -40,69 +59,65 @@ pub struct Decision {
     pub victims: u64,
 }
 
-// What a verdict call returns.
-#[derive(Drop)]
-pub enum Answer {
-    Refused(u8),
-    Decided(Decision),
-}
+impl Decision {
+    // Wait: no round, and nobody to abort.
+    pub const WAIT: Decision = Decision {
+        outcome: Outcome::Wait,
+        price: 0,
+        rounds: 0,
+        victims: 0,
+    };
 
-// The verdict where a ring passes through t; x is X.
-pub fn decide(
-    rows: &[u64],
-    costs: &[u64],
-    t: usize,
-    x: u64,
-    allowance: u32,
-    work: &mut [u64],
-) -> Decision
-    requires { Ringed rows.now costs.now t x work.old }
-    ensures { Called rows.now costs.now t allowance work.old (Answer-as-Decided result) work.new }
-{
-    let made = flow::make_rounds(rows, costs, t, x, allowance, work);
-    if made.left {
-        return Decision {
+    // Not yet, after so many rounds.
+    pub fn not_yet(rounds: u32) -> Decision
+        ensures { result ≡ not_yet rounds }
+    {
+        Decision {
             outcome: Outcome::NotYet,
             price: 0,
-            rounds: made.rounds,
+            rounds,
             victims: 0,
-        };
+        }
     }
-    let price = sheet::inflow(work, rows.len(), t);
-    if costs[t] < price {
+}
+
+// The verdict where a ring passes through T; x is X.
+pub fn decide(call: Call<'_, u64>, x: u64, work: &mut [u64]) -> Decision
+    requires { Ringed call.rows.now call.costs.now call.t x work.old }
+    ensures { Called call.entry.rows.now call.entry.costs.now call.entry.t call.entry.allowance work.old (Decided result) work.new }
+{
+    let made = flow::make_rounds(call, x, work);
+    let Some(sides) = made.sides else {
+        return Decision::not_yet(made.rounds);
+    };
+    let price = sheet::inflow(work, call.rows.len(), call.t);
+    let own = call.costs[call.t];
+    if own < price {
         return Decision {
             outcome: Outcome::AbortT,
-            price: costs[t],
+            price: own,
             rounds: made.rounds,
-            victims: 1u64 << t,
+            victims: 1u64 << call.t,
         };
     }
-    let side = x & made.outs;
+    let side = x & sides.outs;
     Decision {
         outcome: Outcome::AbortOthers,
         price,
         rounds: made.rounds,
-        victims: side ^ (side & made.ins),
+        victims: side ^ (side & sides.ins),
     }
 }
 
 // The verdict call.
-pub fn verdict(rows: &[u64], costs: &[u64], t: usize, allowance: u32, work: &mut [u64]) -> Answer
-    ensures { Called rows.now costs.now t allowance work.old result work.new }
+pub fn verdict(call: Call<'_, u64>, work: &mut [u64]) -> Result<Decision, Reason>
+    ensures { Called call.entry.rows.now call.entry.costs.now call.entry.t call.entry.allowance work.old (answer_of result) work.new }
 {
-    let k = checks::refusal(rows, costs, t, work.len());
-    if k != 0 {
-        return Answer::Refused(k);
+    checks::refusal(call, work.len())?;
+    sheet::clear(work, call.rows.len());
+    let x = graph::on_rings(call.rows, call.t);
+    if !graph::ring_through(call.rows, call.t, x) {
+        return Ok(Decision::WAIT);
     }
-    sheet::clear(work, rows.len());
-    let x = graph::on_rings(rows, t);
-    if !graph::ring_through(rows, t, x) {
-        return Answer::Decided(Decision {
-            outcome: Outcome::Wait,
-            price: 0,
-            rounds: 0,
-            victims: 0,
-        });
-    }
-    Answer::Decided(decide(rows, costs, t, x, allowance, work))
+    Ok(decide(call, x, work))
 }

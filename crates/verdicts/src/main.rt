@@ -8,120 +8,51 @@
 //   refused K DIGEST
 #![tactic(auto)]
 
-ghost use Rattle.std.specs.Prelude.{◌≡◌, ◌*◌, ◌%◌, ◌^◌, ◌<◌, ◌≤◌, length};
+ghost use Rattle.std.specs.Prelude.{◌≡◌};
+ghost use Rattle.std.specs.List.{fold};
+ghost use Rattle.verdicts.specs.Digest.{stirred};
 
+use cases::{Case, PAINT, PLACES, answer_lines};
 use std::io::Stdout;
-use words::words;
+use verdict::{Decision, verdict};
 
-// d times 100000001B3 in hexadecimal digits, which is 2^40 + 435, modulo 2^64: d's low 24 bits go up by 40, its halves are multiplied by 435.
-fn scramble(d: u64) -> u64
-    ensures { result ≡ (d * 1099511628211) % 2 ^ 64 }
+// The digest d with one more place in it: joined by exclusive or with the place, multiplied by 100000001B3 in hexadecimal digits modulo 2^64,
+// and joined with itself shifted down by 29.
+fn stir(d: u64, place: u64) -> u64
+    ensures { result ≡ stirred d place }
 {
-    let shifted = d % 16777216 * 1099511627776;
-    let high = d / 4294967296 * 435 % 4294967296 * 4294967296;
-    let low = d % 4294967296 * 435;
-    shifted.wrapping_add(high).wrapping_add(low)
+    let product = (d ^ place).wrapping_mul(0x100_0000_01B3);
+    product ^ (product >> 29)
 }
 
-// The digest of a list: from CBF29CE484222325 on, d is joined by exclusive or with each place, scrambled, and joined with itself shifted down by 29.
-fn digest(list: &[u64]) -> u64 {
-    let mut d = 14695981039346656037u64;
-    let mut i = 0;
-    while i < list.len() {
-        d = scramble(d ^ list[i]);
-        d = d ^ (d >> 29);
-        i += 1;
-    }
-    d
-}
-
-// Writes a number behind a space.
-fn print_behind(out: &Stdout, x: u64) {
-    let _written = print!(out; " {x:x}");
-}
-
-// Writes the word for an outcome.
-fn print_outcome(out: &Stdout, outcome: verdict::Outcome) {
-    match outcome {
-        verdict::Outcome::Wait => {
-            let _written = print!(out; "wait");
-        }
-        verdict::Outcome::AbortT => {
-            let _written = print!(out; "abort-t");
-        }
-        verdict::Outcome::AbortOthers => {
-            let _written = print!(out; "abort-others");
-        }
-        verdict::Outcome::NotYet => {
-            let _written = print!(out; "not-yet");
-        }
-    }
-}
-
-// Writes a decision.
-fn print_decision(out: &Stdout, d: verdict::Decision) {
-    let outcome = d.outcome;
-    print_outcome(out, outcome);
-    print_behind(out, d.price);
-    print_behind(out, d.rounds as u64);
-    print_behind(out, d.victims)
-}
-
-// Writes an answer.
-fn print_answer(out: &Stdout, answer: verdict::Answer) {
-    match answer {
-        verdict::Answer::Refused(k) => {
-            let _written = print!(out; "refused");
-            print_behind(out, k as u64)
-        }
-        verdict::Answer::Decided(d) => print_decision(out, d),
-    }
-}
-
-// Makes a call with so many work places and writes its answer and the digest.
-fn print_verdict(out: &Stdout, rows: &[u64], costs: &[u64], t: usize, allowance: u32, places: usize)
-    requires { places ≤ 6400 }
+// The digest of a list, from CBF29CE484222325 on.
+fn digest(list: &[u64]) -> u64
+    ensures { result ≡ fold stirred 14695981039346656037 list.now }
 {
-    let mut work = [6510615555426900570u64; 6400];
-    let answer = verdict::verdict(rows, costs, t, allowance, &mut work[..places]);
-    print_answer(out, answer);
-    let digest = digest(&work[..places]);
-    let _written = print!(out; " {digest:016x}\n");
+    list.iter()
+        .fold(0xCBF2_9CE4_8422_2325, |d, place| stir(d, *place))
 }
 
-// Answers the line at a place, and gives the place behind it.
-fn line(out: &Stdout, text: &[u8], at: usize) -> usize
-    requires { at < length text.now }
-    ensures { (at < result) × (result ≤ length text.now) }
-{
-    let mut opening = [0u64; 5];
-    let first = words(text, at, &mut opening);
-    let n = opening[0] as usize;
-    let m = opening[1] as usize;
-    let places = opening[2] as usize;
-    if n > 80 || m > 80 || places > 6400 {
-        return text.len();
-    }
-    let mut rows = [0u64; 80];
-    let mut costs = [0u64; 80];
-    let middle = words(text, first, &mut rows[..n]);
-    let end = words(text, middle, &mut costs[..m]);
-    let t = opening[3] as usize;
-    let allowance = (opening[4] % 4294967296) as u32;
-    print_verdict(out, &rows[..n], &costs[..m], t, allowance, places);
-    end
-}
-
-// Answers all lines of a text.
-fn lines(out: &Stdout, text: &[u8]) {
-    let mut at = 0;
-    while at < text.len() {
-        at = line(out, text, at);
-    }
+// Makes a call and writes its answer and the digest. A write that fails is let go.
+fn print_verdict(out: &Stdout, case: &Case) {
+    // No heap is a rule of the project: a list of the largest size, of which the first places are lent.
+    let mut work = [PAINT; PLACES];
+    let work = &mut work[..case.places()];
+    let _written = match verdict(case.call(), work) {
+        Ok(
+            Decision {
+                outcome,
+                price,
+                rounds,
+                victims,
+            },
+        ) => print!(out; "{outcome} {price:x} {rounds:x} {victims:x}"),
+        Err(reason) => print!(out; "refused {:x}", u8::from(reason)),
+    };
+    let _written = println!(out; " {:016x}", digest(work));
 }
 
 fn main(rt: HostRuntime) {
-    let mut text = [0u8; 65536];
-    let n = input::read_full(&mut rt.stdin(), &mut text);
-    lines(&rt.stdout(), &text[..n])
+    let out = rt.stdout();
+    answer_lines(&mut rt.stdin(), |case: Case| print_verdict(&out, &case));
 }

@@ -5,7 +5,7 @@
 use mathlib.Core.Path.{◌≡◌, sym, ◌∙◌}
 use mathlib.Core.List.{List}
 use Prim.Native.Nat.{ℕ}
-use Rattle.words.specs.declared.Number.{Number}
+use Rattle.words.specs.Number.{Number}
 use Rattle.words.specs.Words.{word_at, words_at, words_end}
 
 pub word_unique : (text : List ℕ) (at : ℕ) (a b : Number) → a ≡ word_at text at → b ≡ word_at text at → a ≡ b

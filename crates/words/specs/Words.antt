@@ -7,7 +7,7 @@
 --   words_end text at k    the place behind them
 use Rattle.std.specs.Prelude.{cond, List, [], ◌∷◌, ℕ, zero, suc, ◌+◌, ◌*◌, ◌%◌, ◌^◌, drop}
 use Rattle.digits.specs.Digits.{is_digit, digit}
-use Rattle.words.specs.declared.Number.{Number}
+use Rattle.words.specs.Number.{Number}
 
 unfoldable pub grown : ℕ → List ℕ → ℕ
 grown v [] = v

@@ -1,13 +1,9 @@
-use Rattle.std.proofs.Common.{refl, ◌∙◌, arith}
-use Rattle.digits.proofs.SpellLaws.{spelling_none, spelling_more, spelling_end}
-use Rattle.codec.proofs.ByteLaws.{bytes_based}
+-- `codec::put_number`: zeros, and std's bytes of the number behind them.
+use Rattle.std.proofs.Common.{arith}
+use Rattle.codec.proofs.ByteLaws.{number_put}
 use Rattle.codec.proofs.put_number.Goals as goal
 
-pub loop-i-init : goal.loop-i-init
-loop-i-init c = spelling_none 256 (λ d. d) _ _ _ _
-
-pub loop-i-preserved : goal.loop-i-preserved
-loop-i-preserved c = spelling_more 256 (λ d. d) _ _ _ _ _ _ _ _ c.requires (omega arith) refl c.loop-i.invariant
-
 pub returns : goal.returns
-returns c = spelling_end 256 (λ d. d) _ _ _ _ _ _ _ (omega arith) c.loop-i.invariant ∙ rw (bytes_based c.args.k c.args.x) refl
+returns c =
+    let digits = rw c.to_be_bytes.ensures at c.copy_from_slice.ensures.after in
+    number_put _ _ _ _ _ _ _ _ _ _ c.requires c.min-own.ensures (omega arith) (omega arith) (omega arith) (omega arith) (c.fill.ensures.after (λ y e. e)) digits

@@ -1,71 +1,52 @@
+use mathlib.Core.Path.{refl}
 use mathlib.Core.Logic.{inl, inr}
 use native.Mathlib.Omega.{arith}
 use Rattle.bits.proofs.Digits.{one_shl}
-use Rattle.flow.proofs.CostLaws.{total_start, total_job, total_fits, total_turn, total_end}
-use Rattle.flow.proofs.StartLaws.{begin_start, begin_below, begin_job, begin_less, begin_turn, begin_end}
+use Rattle.flow.proofs.CostLaws.{turn_lowest, total_start, total_job, total_fits, total_turn, total_end}
+use Rattle.flow.proofs.StartLaws.{begin_start, begin_below, begin_job, begin_turn, begin_end}
 use Rattle.flow.proofs.begin.Goals as goal
-use Rattle.flow.proofs.begin.Goals.{else-u-t, then-u-t}
 
-pub loop-rest-init : goal.loop-rest-init
-loop-rest-init c = (begin_start _ _ _ _ c.requires.0 (omega arith), total_start _ _ c.requires.1 (omega arith))
+pub loop-u-init : goal.loop-u-init
+loop-u-init c =
+    rw c.into_iter-u-iterator.ensures.into_iter_gives
+    (rw c.requires.none (begin_start _ _ _ c.requires.jobs.0 (omega arith)), total_start _ _ c.requires.jobs.1 (omega arith), refl, refl, refl, refl)
 
-pub overflow_cast-u : goal.overflow_cast-u
-overflow_cast-u c = let l = begin_below _ _ _ _ _ c.loop-rest.invariant.0 c.loop-rest-test.true in omega arith
-
-pub offset_bounds-rows-u : goal.offset_bounds-rows-u
-offset_bounds-rows-u c = let l = begin_below _ _ _ _ _ c.loop-rest.invariant.0 c.loop-rest-test.true in omega arith
-
-pub bounds-rows-u : goal.bounds-rows-u
-bounds-rows-u c = begin_job _ _ _ _ _ c.loop-rest.invariant.0 c.loop-rest-test.true
-
-pub overflow_mul-steps : goal.overflow_mul-steps
-overflow_mul-steps c = let l = begin_below _ _ _ _ _ c.loop-rest.invariant.0 c.loop-rest-test.true in omega arith
-
-pub overflow_add-steps : goal.overflow_add-steps
-overflow_add-steps c = let l = begin_below _ _ _ _ _ c.loop-rest.invariant.0 c.loop-rest-test.true in omega arith
-
-pub offset_bounds-steps-u : goal.offset_bounds-steps-u
-offset_bounds-steps-u c = let l = begin_below _ _ _ _ _ c.loop-rest.invariant.0 c.loop-rest-test.true in omega arith
-
-pub bounds-steps-u : goal.bounds-steps-u
-bounds-steps-u c = let l = begin_below _ _ _ _ _ c.loop-rest.invariant.0 c.loop-rest-test.true in omega arith
-
-pub overflow_shl-steps : goal.overflow_shl-steps
-overflow_shl-steps c = begin_below _ _ _ _ _ c.loop-rest.invariant.0 c.loop-rest-test.true
-
-pub overflow_mul-steps-then-u-t : goal.overflow_mul-steps-then-u-t
-overflow_mul-steps-then-u-t c = let l = begin_below _ _ _ _ _ c.loop-rest.invariant.0 c.loop-rest-test.true in omega arith
-
-pub offset_bounds-steps-u-then-u-t : goal.offset_bounds-steps-u-then-u-t
-offset_bounds-steps-u-then-u-t c = let l = begin_below _ _ _ _ _ c.loop-rest.invariant.0 c.loop-rest-test.true in omega arith
-
-pub bounds-steps-u-then-u-t : goal.bounds-steps-u-then-u-t
-bounds-steps-u-then-u-t c = let l = begin_below _ _ _ _ _ c.loop-rest.invariant.0 c.loop-rest-test.true in omega arith
-
-pub offset_bounds-costs-u : goal.offset_bounds-costs-u
-offset_bounds-costs-u c = let l = begin_below _ _ _ _ _ c.loop-rest.invariant.0 c.loop-rest-test.true in omega arith
-
-pub bounds-costs-u : goal.bounds-costs-u
-bounds-costs-u c = total_job _ _ _ _ c.loop-rest.invariant.1 c.loop-rest-test.true
+pub bounds-call-u : goal.bounds-call-u
+bounds-call-u c =
+    let t = c.loop-u.invariant.1 in
+    let (n, e, f) = turn_lowest _ _ _ t.rest_part.small c.in-Some.ensures.steps in
+    rw e (total_job _ _ _ _ t n)
 
 pub overflow_add-sum : goal.overflow_add-sum
-overflow_add-sum c = let l = total_fits _ _ _ _ c.loop-rest.invariant.1 c.loop-rest-test.true in omega arith
+overflow_add-sum c =
+    let t = c.loop-u.invariant.1 in
+    let (n, e, f) = turn_lowest _ _ _ t.rest_part.small c.in-Some.ensures.steps in
+    rw e (let l = total_fits _ _ _ _ t n in omega arith)
 
-pub overflow_sub-rest : goal.overflow_sub-rest
-overflow_sub-rest c = let n = c.loop-rest-test.true in omega arith
+pub bounds-call-u-in-loop-u : goal.bounds-call-u-in-loop-u
+bounds-call-u-in-loop-u c =
+    let b = c.loop-u.invariant.0 in
+    let (n, e, f) = turn_lowest _ _ _ b.rest_part.small c.in-Some.ensures.steps in
+    rw e (begin_job _ _ _ _ _ b n)
 
-pub loop-rest-smaller : goal.loop-rest-smaller
-loop-rest-smaller c = begin_less _ _ _ _ _ c.loop-rest.invariant.0 c.loop-rest-test.true
+pub loop-u-preserved-then-u-call : goal.loop-u-preserved-then-u-call
+loop-u-preserved-then-u-call c =
+    let (b, t, work, thru, costs, name) = c.loop-u.invariant in
+    let (n, e, f) = turn_lowest _ _ _ t.rest_part.small c.in-Some.ensures.steps in
+    let one = one_shl _ (begin_below _ _ _ _ _ b n) in
+    let other = rw e at c.if-u-call.true in
+    rw (e, f) (begin_turn _ _ _ _ _ b n _ one _ (inl (other, refl)), total_turn _ _ _ _ t n, work, thru, costs, name)
 
-pub loop-rest-preserved : goal.loop-rest-preserved
-loop-rest-preserved c = let l = c.loop-rest in
-    let n = c.loop-rest-test.true in (
-      begin_turn _ _ _ _ _ l.invariant.0 n _ (one_shl _ (begin_below _ _ _ _ _ l.invariant.0 n)) _ (elim c.if-u-t.branch [ then-u-t w ↦ inl (w.if-u-t.true, w.steps-is) | else-u-t w ↦ inr (w.if-u-t.false, w.steps-is) ]),
-      total_turn _ _ _ _ l.invariant.1 n,
-    )
+pub loop-u-preserved : goal.loop-u-preserved
+loop-u-preserved c =
+    let (b, t, work, thru, costs, name) = c.loop-u.invariant in
+    let (n, e, f) = turn_lowest _ _ _ t.rest_part.small c.in-Some.ensures.steps in
+    let one = one_shl _ (begin_below _ _ _ _ _ b n) in
+    let own = rw e at c.if-u-call.false in
+    rw (e, f) (begin_turn _ _ _ _ _ b n _ one _ (inr (own, refl)), total_turn _ _ _ _ t n, work, thru, costs, name)
 
 pub returns : goal.returns
-returns c = record {
-  value = total_end _ _ _ _ c.loop-rest.invariant.1 c.loop-rest-test.false;
-  begun = begin_end _ _ _ _ _ c.loop-rest.invariant.0 c.loop-rest-test.false;
-}
+returns c =
+    let (b, t, work, thru, costs, name) = c.loop-u.invariant in
+    let none = c.in-None.ensures.steps.0 in
+    record { value = total_end _ _ _ _ t none; begun = begin_end _ _ _ _ _ b none; same_flow = (work, thru); same_costs = costs; same_work = name }

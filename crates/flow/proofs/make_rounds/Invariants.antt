@@ -1,28 +1,24 @@
--- `make_rounds`: the first rounds find their path by a search each; behind them a search begins the paths of one length, and the others of that length are found down its levels.
-use Prim.Native.Nat.{◌-◌}
-use Rattle.flow.proofs.LoopLaws.{Searching, Lowering}
+-- `make_rounds`: so many rounds were made; in the inner loop one more than before it, and the levels are levels of the steps.
+use mathlib.Core.Path.{◌≡◌}
+use Prim.Native.Nat.{◌+◌, ◌-◌, ◌*◌, ◌≤◌}
+use lib.ListN.{length}
+use Rattle.flow.specs.Levels.{Levels}
+use Rattle.flow.proofs.LoopLaws.{Rounding}
 use Rattle.flow.proofs.make_rounds.Given as goal
 
-abbrev pub invariant-loop-e : goal.invariant-loop-e
-invariant-loop-e l =
-    Searching l.rows l.costs l.t l.x l.allowance l.wide l.initial.work l.work l.thru l.steps l.queue l.parent l.rounds l.e
+abbrev pub invariant-searched : goal.invariant-searched
+invariant-searched l =
+    (l.flow.work.ghost_name ≡ l.initial.flow.work.ghost_name) × (l.flow.costs.now ≡ l.call.costs.now) × (length l.trail.queue ≡ 128) × (length l.trail.parent ≡ 128)
+    × Rounding l.call.rows.now l.call.costs.now l.call.t l.x l.call.allowance l.flow.wide l.fn.work l.flow.work.now l.flow.thru l.flow.steps l.rounds
 
-abbrev pub decreases-loop-e : goal.decreases-loop-e
-decreases-loop-e l =
-    l.allowance - l.rounds
+abbrev pub decreases-searched : goal.decreases-searched
+decreases-searched l = l.call.allowance - l.rounds
 
-abbrev pub invariant-loop-e-3 : goal.invariant-loop-e-3
-invariant-loop-e-3 l =
-    Lowering l.rows l.costs l.t l.x l.allowance l.wide l.initial.work l.work l.thru l.steps l.queue l.parent l.levels l.initial.rounds l.rounds l.e
+abbrev pub invariant-lowered : goal.invariant-lowered
+invariant-lowered l =
+    (l.flow.work.ghost_name ≡ l.initial.flow.work.ghost_name) × (l.flow.costs.now ≡ l.call.costs.now) × (length l.trail.queue ≡ 128) × (length l.trail.parent ≡ 128)
+    × Rounding l.call.rows.now l.call.costs.now l.call.t l.x l.call.allowance l.flow.wide l.fn.work l.flow.work.now l.flow.thru l.flow.steps l.rounds
+    × Levels l.flow.steps (2 * l.call.t + 1) (2 * l.call.t) l.levels × (l.initial.rounds ≤ l.rounds)
 
-abbrev pub decreases-loop-e-3 : goal.decreases-loop-e-3
-decreases-loop-e-3 l =
-    l.allowance - l.rounds
-
-abbrev pub invariant-loop-e-2 : goal.invariant-loop-e-2
-invariant-loop-e-2 l =
-    Searching l.rows l.costs l.t l.x l.allowance l.wide l.initial.work l.work l.thru l.steps l.queue l.parent l.rounds l.e
-
-abbrev pub decreases-loop-e-2 : goal.decreases-loop-e-2
-decreases-loop-e-2 l =
-    l.allowance - l.rounds
+abbrev pub decreases-lowered : goal.decreases-lowered
+decreases-lowered l = l.call.allowance - l.rounds

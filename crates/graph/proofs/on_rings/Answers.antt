@@ -1,35 +1,24 @@
 use native.Mathlib.Omega.{arith}
-use mathlib.Core.List.{List}
-use Prim.Native.Nat.{ℕ, ◌*◌, ◌%◌, ◌^◌, ◌<◌}
-use lib.ListN.{length}
-use Rattle.walks.specs.Walk.{Reaches}
-use Rattle.graph.specs.Waits.{waits, Jobs}
-use Rattle.bits.specs.Mask.{MaskOf}
 use Rattle.bits.proofs.Digits.{one_shl}
-use Rattle.graph.proofs.RingLaws.{Homing, home_start, home_gatherable, home_grow, home_small, home_turn, home_end}
+use Rattle.graph.proofs.RingLaws.{home_start, home_gatherable, home_grow, home_small, home_turn, home_end}
 use Rattle.graph.proofs.on_rings.Goals as goal
 
 pub overflow_shl-x : goal.overflow_shl-x
 overflow_shl-x c = let p = c.requires in omega (arith, p.0.few, p.1)
 
 -- before the loop x has T alone
-begun : (rows : List ℕ) (t : ℕ) → Jobs rows × (t < length rows) → (away : ℕ) → MaskOf (Reaches (waits rows) (length rows) t) away → Homing rows t away ((1 * 2 ^ t) % 2 ^ 64)
-begun rows t p away A = home_start rows t away _ p.0 p.1 A (one_shl t (omega (arith, p.0.few, p.1)))
+pub loop-t-init : goal.loop-t-init
+loop-t-init c = let p = c.requires in home_start _ _ _ _ p.0 p.1 c.reach-away.ensures (one_shl c.args.t (omega (arith, p.0.few, p.1)))
 
 pub gather-fresh-requires : goal.gather-fresh-requires
-gather-fresh-requires c = home_gatherable _ _ _ _ (begun _ _ c.requires _ c.reach-away.ensures)
+gather-fresh-requires c = home_gatherable _ _ _ _ c.loop-t.invariant
 
-pub loop-fresh-init : goal.loop-fresh-init
-loop-fresh-init c = (begun _ _ c.requires _ c.reach-away.ensures, c.gather-fresh.ensures)
+pub returns-then-fresh-eq0 : goal.returns-then-fresh-eq0
+returns-then-fresh-eq0 c = home_end _ _ _ _ c.loop-t.invariant _ c.gather-fresh.ensures c.if-fresh-eq0.true
 
-pub gather-fresh-requires-in-loop-fresh : goal.gather-fresh-requires-in-loop-fresh
-gather-fresh-requires-in-loop-fresh c = let l = c.loop-fresh in home_gatherable _ _ _ _ (home_turn _ _ _ _ l.invariant.0 _ l.invariant.1)
+pub loop-t-smaller : goal.loop-t-smaller
+loop-t-smaller c = let i = c.loop-t.invariant in
+    omega (arith, home_grow _ _ _ _ i _ c.gather-fresh.ensures c.if-fresh-eq0.false, home_small _ _ _ _ i _ c.gather-fresh.ensures)
 
-pub loop-fresh-smaller : goal.loop-fresh-smaller
-loop-fresh-smaller c = let l = c.loop-fresh in omega (arith, home_grow _ _ _ _ l.invariant.0 _ l.invariant.1 c.loop-fresh-test.true, home_small _ _ _ _ l.invariant.0 _ l.invariant.1)
-
-pub loop-fresh-preserved : goal.loop-fresh-preserved
-loop-fresh-preserved c = let l = c.loop-fresh in (home_turn _ _ _ _ l.invariant.0 _ l.invariant.1, c.gather-fresh-in-loop-fresh.ensures)
-
-pub returns : goal.returns
-returns c = let l = c.loop-fresh in home_end _ _ _ _ l.invariant.0 _ l.invariant.1 c.loop-fresh-test.false
+pub loop-t-preserved : goal.loop-t-preserved
+loop-t-preserved c = home_turn _ _ _ _ c.loop-t.invariant _ c.gather-fresh.ensures

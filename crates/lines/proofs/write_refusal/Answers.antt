@@ -1,6 +1,5 @@
--- `lines::write_refusal`: three fields one behind another, and the line feed.
 use Rattle.lines.proofs.LineLaws.{refusal_line_lem}
 use Rattle.lines.proofs.write_refusal.Goals as goal
 
 pub returns : goal.returns
-returns c = refusal_line_lem c.args.out.now _ _ _ c.args.r c.requires c.put_digits.ensures c.put_digits-2.ensures c.put_digits-3.ensures
+returns c = rw (c.write_fields.ensures, c.from.ensures, c.from-2.ensures, c.from-3.ensures) (refusal_line_lem c.args.r c.args.out.now c.requires)

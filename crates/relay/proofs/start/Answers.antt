@@ -1,55 +1,31 @@
 -- `relay::start`: the lists are read, and a refusal or a wait answers the call; otherwise there is a ring.
-use native.Mathlib.Omega.{arith}
-use Rattle.checks.proofs.RefusalLaws.{due_none, faultless_jobs, faultless_job}
-use Rattle.relay.proofs.StartLaws.{read_rows, read_costs, read_count, lent_readable, lent_few, lent_room, started_refused, started_waits, started_ahead}
-use Rattle.bytewise.proofs.FaultLaws.{square_under}
+use mathlib.Core.Path.{refl}
+use Rattle.std.proofs.lemmas.Result.{err_from_is_err_and}
+use Rattle.reasons.proofs.NumberLaws.{reason_some}
+use Rattle.checks.proofs.RefusalLaws.{due_refused, due_none, faultless_jobs, faultless_job}
+use Rattle.relay.proofs.StartLaws.{read, read_refused, read_waits, read_ahead}
 use Rattle.relay.proofs.start.Goals as goal
 
-pub read_lists-requires : goal.read_lists-requires
-read_lists-requires c = lent_readable c.args.rows.now c.args.costs.now c.args.t c.args.work.now c.args.answer.now _ _ c.requires
-
-pub overflow_mul-n : goal.overflow_mul-n
-overflow_mul-n c = omega (arith, square_under _ 64 (lent_few c.args.rows.now c.args.costs.now c.args.t c.args.work.now c.args.answer.now _ _ c.requires))
-
-pub returns-then-k-ne0 : goal.returns-then-k-ne0
-returns-then-k-ne0 c =
-    started_refused c.args.rows.now c.args.costs.now c.args.t c.args.work.now c.args.answer.now c.requires.shape _ _
-    (read_rows c.args.rows.now c.args.costs.now c.args.t c.args.work.now c.args.answer.now _ _ c.requires _ c.read_lists.ensures.row_list_after)
-    (read_costs c.args.rows.now c.args.costs.now c.args.t c.args.work.now c.args.answer.now _ _ c.requires _ c.read_lists.ensures.cost_list_after) _ _
-    (read_count c.args.rows.now c.args.costs.now c.args.t c.args.work.now c.args.answer.now _ _ c.requires _ c.read_lists.ensures.row_list_after)
-    c.refusal-k.ensures c.if-k-ne0.true
+pub returns-in_err-refusal : goal.returns-in_err-refusal
+returns-in_err-refusal c =
+    let e = err_from_is_err_and c.from_residual.result c.from_residual.ensures.1 in
+    let r = read _ _ _ _ _ _ c.requires _ _ c.read_lists.ensures.row_list_after c.read_lists.ensures.cost_list_after in
+    rw (e.1, e.2) (read_refused _ _ _ _ _ _ _ _ c.requires.shape r _ _ (due_refused _ _ _ _ _ c.in_err-refusal.ensures (reason_some _)))
 
 pub on_rings-x-requires : goal.on_rings-x-requires
-on_rings-x-requires c =
-    let f = due_none _ _ _ _ _ c.refusal-k.ensures c.if-k-ne0.false in
-    (faultless_jobs _ _ _ _ f, faultless_job _ _ _ _ f)
+on_rings-x-requires c = let f = due_none _ _ _ _ _ c.in_ok-refusal.ensures refl in (faultless_jobs _ _ _ _ f, faultless_job _ _ _ _ f)
 
-pub ring_through-requires : goal.ring_through-requires
-ring_through-requires c =
-    let f = due_none _ _ _ _ _ c.refusal-k.ensures c.if-k-ne0.false in
-    record { t_in_bounds = faultless_job _ _ _ _ f; mask_of = c.on_rings-x.ensures }
-
-pub overflow_mul-n-then-not-ring_through : goal.overflow_mul-n-then-not-ring_through
-overflow_mul-n-then-not-ring_through c = omega (arith, square_under _ 64 (lent_few c.args.rows.now c.args.costs.now c.args.t c.args.work.now c.args.answer.now _ _ c.requires))
-
-pub write_zeros-requires : goal.write_zeros-requires
-write_zeros-requires c = omega (arith, lent_room c.args.rows.now c.args.costs.now c.args.t c.args.work.now c.args.answer.now _ _ c.requires)
-
-pub give-requires : goal.give-requires
-give-requires c = omega (arith, c.requires.shape.places)
+pub ring_through-requires-clause-t_in_bounds : goal.ring_through-requires-clause-t_in_bounds
+ring_through-requires-clause-t_in_bounds c = faultless_job _ _ _ _ (due_none _ _ _ _ _ c.in_ok-refusal.ensures refl)
 
 pub returns-then-not-ring_through : goal.returns-then-not-ring_through
 returns-then-not-ring_through c =
-    started_waits c.args.rows.now c.args.costs.now c.args.t c.args.work.now c.args.answer.now c.requires.shape _ _
-    (read_rows c.args.rows.now c.args.costs.now c.args.t c.args.work.now c.args.answer.now _ _ c.requires _ c.read_lists.ensures.row_list_after)
-    (read_costs c.args.rows.now c.args.costs.now c.args.t c.args.work.now c.args.answer.now _ _ c.requires _ c.read_lists.ensures.cost_list_after) _ _ _
-    (read_count c.args.rows.now c.args.costs.now c.args.t c.args.work.now c.args.answer.now _ _ c.requires _ c.read_lists.ensures.row_list_after)
-    (due_none _ _ _ _ _ c.refusal-k.ensures c.if-k-ne0.false) c.on_rings-x.ensures c.ring_through.ensures _ _ c.if-not-ring_through.true c.write_zeros.ensures c.give.ensures
+    let f = due_none _ _ _ _ _ c.in_ok-refusal.ensures refl in
+    let r = read _ _ _ _ _ _ c.requires _ _ c.read_lists.ensures.row_list_after c.read_lists.ensures.cost_list_after in
+    read_waits _ _ _ _ _ _ _ _ c.requires.shape r _ _ f c.on_rings-x.ensures c.ring_through.ensures _ _ _ c.if-not-ring_through.true c.write_zeros.ensures c.give.ensures
 
 pub returns : goal.returns
 returns c =
-    started_ahead c.args.rows.now c.args.costs.now c.args.t c.args.work.now c.args.answer.now c.requires.shape _ _
-    (read_rows c.args.rows.now c.args.costs.now c.args.t c.args.work.now c.args.answer.now _ _ c.requires _ c.read_lists.ensures.row_list_after)
-    (read_costs c.args.rows.now c.args.costs.now c.args.t c.args.work.now c.args.answer.now _ _ c.requires _ c.read_lists.ensures.cost_list_after) _ _ _
-    (read_count c.args.rows.now c.args.costs.now c.args.t c.args.work.now c.args.answer.now _ _ c.requires _ c.read_lists.ensures.row_list_after)
-    (due_none _ _ _ _ _ c.refusal-k.ensures c.if-k-ne0.false) c.on_rings-x.ensures c.ring_through.ensures c.if-not-ring_through.false
+    let f = due_none _ _ _ _ _ c.in_ok-refusal.ensures refl in
+    let r = read _ _ _ _ _ _ c.requires _ _ c.read_lists.ensures.row_list_after c.read_lists.ensures.cost_list_after in
+    (read_ahead _ _ _ _ _ _ _ _ c.requires.shape r _ _ f c.on_rings-x.ensures c.ring_through.ensures c.if-not-ring_through.false, refl, refl)

@@ -1,2 +1,0 @@
-pub mod DigestLaws
-pub mod WorkLaws
