@@ -2,6 +2,7 @@
 -- Assumes nothing.
 --
 --   bytes_length        k bytes are k long
+--   bytes_based         they are its digits to the base 256
 --   number_put          zeros and the bytes of a number behind them, written over a part of a list
 --   number_eight        the number of eight bytes
 use mathlib.Core.Path.{◌≡◌, refl, sym, ap, ◌∙◌}
@@ -17,7 +18,13 @@ use Rattle.std.proofs.lemmas.List.Edits.{paste-paste, paste_all}
 use Rattle.std.proofs.lemmas.Bool.{cases_lt}
 use Rattle.std.proofs.Common.{inl, inr, lit<}
 use Rattle.std.specs.Int.{w64, from_be_bytes, to_be_bytes, bytes_high_first}
+use Rattle.digits.proofs.SpellLaws.{based}
 use Rattle.codec.specs.Bytes.{number_at, bytes_of}
+
+pub bytes_based : (k x : ℕ) → based 256 (λ d. d) k x ≡ bytes_of k x
+unfolding based bytes_of
+bytes_based zero x = refl
+bytes_based (suc k) x = ap (λ (l : List ℕ). x / 256 ^ k % 256 ∷ l) (bytes_based k x)
 
 pub bytes_length : (k x : ℕ) → length (bytes_of k x) ≡ k
 unfolding bytes_of
@@ -65,10 +72,11 @@ number_bytes k own x e h = elim (cases_lt k 8) [ inl l ↦ short (omega arith) |
         rw (z, high_first 8 x) (sym (zeros_first (k - own) x h) ∙ ap (λ (i : ℕ). bytes_of i x) m)
 
 -- zeros written from a place on, and bytes of the number behind them
-pub number_put : (d z w : List ℕ) (at k x own start n₁ n₂ : ℕ) → at + k ≤ length d → own ≡ min k 8 → x < 2 ^ 64 → start ≡ at + (k - own) → n₁ ≡ k - own → n₂ ≡ own
-    → z ≡ replicate (length (take n₁ (drop at d))) 0 → w ≡ take (8 - (8 - own)) (drop (8 - own) (to_be_bytes w64 x))
+pub number_put : (d z w : List ℕ) (at k x y own start n₁ n₂ : ℕ) → at + k ≤ length d → own ≡ min k 8 → x < 2 ^ 64 → start ≡ at + (k - own) → n₁ ≡ k - own → n₂ ≡ own
+    → z ≡ replicate (length (take n₁ (drop at d))) 0 → w ≡ take (8 - (8 - own)) (drop (8 - own) (to_be_bytes w64 y)) → y ≡ x
     → put_mid start n₂ (put_mid at n₁ d z) w ≡ take at d ++ bytes_of k x ++ drop (at + k) d
-number_put d z w at k x own start n₁ n₂ room f h s e₁ e₂ u v =
+number_put d z w at k x y own start n₁ n₂ room f h s e₁ e₂ u o q =
+    let v : w ≡ take (8 - (8 - own)) (drop (8 - own) (to_be_bytes w64 x)) = o ∙ ap (λ (i : ℕ). take (8 - (8 - own)) (drop (8 - own) (to_be_bytes w64 i))) q in
     let m = k - own in
     let long : length (take n₁ (drop at d)) ≡ m = length-take-le n₁ (drop at d) (omega (arith, length-drop at d)) ∙ e₁ in
     let zs : z ≡ replicate m 0 = u ∙ ap (λ (i : ℕ). replicate i 0) long in

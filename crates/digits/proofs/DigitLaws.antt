@@ -31,11 +31,12 @@ module _ (t : List ℕ) (at : ℕ) where
   unfolding number
   read_none = record { value = refl; bound = omega arith }
 
-  pub read_more : (k v b : ℕ) → Read t at k v → b ≡ byte_at t (at + 2 * k) → b < 256 → Read t at (k + 1) (v * 256 + b)
+  -- w is read with the byte b at place p
+  pub read_more : (k v b p w : ℕ) → Read t at k v → b ≡ byte_at t p → p ≡ at + 2 * k → w ≡ v * 256 + b → b < 256 → Read t at (k + 1) w
   unfolding number
-  read_more k v b r e l =
+  read_more k v b p w r e f g l =
       let s : k + 1 ≡ suc k = omega arith in
-      rw s (record { value = rw (r.value, e) refl; bound = let p = pow-suc 256 k in omega (arith, p, r.bound, l) })
+      rw (s, g) (record { value = rw (r.value, e, f) refl; bound = let p = pow-suc 256 k in omega (arith, p, r.bound, l) })
 
 pub read_fits : (t : List ℕ) (at k v : ℕ) → Read t at k v → k < 8 → v < 2 ^ 56
 read_fits t at k v r h = let p = pow-le-pow_right {n = 256} (lit< tt) {i = k} {j = 7} (omega arith) in omega (arith, p, r.bound)

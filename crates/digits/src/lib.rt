@@ -75,7 +75,6 @@ fn digit_of(d: u8) -> u8
 }
 
 // Writes the last k digits of x, from a place on.
-#[tactic(auto, using(crate::proofs::SpellLaws::spelling_none, crate::proofs::SpellLaws::spelling_end))]
 pub fn put_digits(out: &mut [u8], at: usize, k: usize, x: u64)
     requires { at + k ≤ length out.old }
     ensures { out.new ≡ take at out.old ++ spell k x ++ drop (at + k) out.old }

@@ -2,6 +2,7 @@
 --
 --   reason_one    two reasons with one number are one
 --   refusal_one   two results with one number are one
+--   reason_number_unique   a reason has one number
 --   reason_some, reason_positive   no reason has the number 0
 use Rattle.std.proofs.Common.{◌≡◌, ◌≢◌, ◌≤◌, ℕ, arith, List, [], ◌∷◌, get_or, refl, sym, ◌∙◌, ap, Result, Ok, Err}
 use Rattle.reasons.specs.declared.Reason.{Reason}
@@ -50,6 +51,9 @@ reason_in (Err reason) = reason
 pub reason_one : (r s : Reason) → reason_number r ≡ reason_number s → r ≡ s
 unfolding reason_in
 reason_one r s e = ap reason_in (refusal_one (Err r) (Err s) e)
+
+pub reason_number_unique : (reason : Reason) (a b : ℕ) → a ≡ reason_number reason → b ≡ reason_number reason → a ≡ b
+reason_number_unique reason a b p q = p ∙ sym q
 
 pub reason_some : (reason : Reason) → reason_number reason ≢ 0
 reason_some reason e = cc (refusal_one (Err reason) (Ok (tt {0})) e)

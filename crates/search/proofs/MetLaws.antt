@@ -4,6 +4,7 @@
 --   met_same         two orders in breadth agree as far as both go
 --   sought_unique    two results of a search from the same lists are equal
 --   searched_unique  and so are two answers of it
+--   trail_unique     two trails before the first search are equal
 use mathlib.Core.Path.{◌≡◌, refl, sym, ap, ◌∙◌, subst}
 use mathlib.Core.Logic.{◌⊎◌, inl, inr}
 use mathlib.Core.Bool.{Bool}
@@ -12,6 +13,7 @@ use Prim.Native.Nat.{ℕ, zero, suc, ◌<◌, ◌≤◌}
 use native.Mathlib.Nat.{le_refl}
 use native.Mathlib.Decide.{ℕ_discrete, dec_lt}
 use native.Mathlib.Omega.{arith}
+use Rattle.std.specs.Prelude.{replicate}
 use Rattle.std.proofs.Common.{Option, None, Some}
 use lib.Dec.{T}
 use lib.Seq.{ext_get_or}
@@ -173,3 +175,6 @@ searched_unique steps s t qs₀ ps₀ qs ps qs' ps' (Some e) None A B =
     let u = sought_unique steps s t qs₀ ps₀ qs ps qs' ps' e 0 A.1 B in absurd (omega (arith, u.place, A.0))
 searched_unique steps s t qs₀ ps₀ qs ps qs' ps' (Some e) (Some e') A B =
     let u = sought_unique steps s t qs₀ ps₀ qs ps qs' ps' e e' A.1 B.1 in (ap Some u.place, u.queue, u.parent)
+
+pub trail_unique : (qs ps qs' ps' : List ℕ) → qs ≡ replicate 128 0 → ps ≡ replicate 128 0 → qs' ≡ replicate 128 0 → ps' ≡ replicate 128 0 → (qs ≡ qs') × (ps ≡ ps')
+trail_unique qs ps qs' ps' a b c d = (a ∙ sym c, b ∙ sym d)

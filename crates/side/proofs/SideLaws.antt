@@ -4,7 +4,7 @@
 --   Siding                         ins and outs are parts of the sink's side
 --   Shut                           outs has all out-nodes with a step to ins
 --   side_others, side_start        a call of `gather` is allowed; the sink alone
---   side_out, side_shut            outs gets the out-nodes with a step to ins
+--   side_out, side_shut, out_side  outs gets the out-nodes with a step to ins
 --   side_grow, side_small, side_turn    ins gets what is fresh, the in-nodes with a step to outs
 --   side_end                       nothing is fresh
 --   sided_unique                   two results of `sink_side` are equal
@@ -119,6 +119,10 @@ module _ (S : List ℕ) (t x ins outs : ℕ) (small : x < 2 ^ 64) (D : Siding S 
       go : Dec (bit outs u ≡ 1) → Has (bit_or outs more) u
       go (yes e) = has_or_l outs more u e
       go (no e) = has_or_r outs more u (M.complete u (record { member = xor_has x outs u m e; other = v; named = s; hit = h }))
+
+-- steps from the nodes of side i, where that is the out-nodes
+pub out_side : (S : List ℕ) (x ins outs i more : ℕ) → i ≡ 1 → MaskOf (Hits S 2 i (bit_xor x outs) ins) more → MaskOf (Hits S 2 1 (bit_xor x outs) ins) more
+out_side S x ins outs i more e M = subst (λ (j : ℕ). MaskOf (Hits S 2 j (bit_xor x outs) ins) more) e M
 
 -- ---- the in-nodes
 

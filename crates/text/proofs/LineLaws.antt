@@ -1,10 +1,11 @@
 -- The line at a place and its refusal, in the words of the library.
 -- Assumes nothing.
 --
---   line_is                      how long a line is, out of the place of the first line feed
+--   line_front                   the bytes of a line are the first ones of its list
+--   line_is, line_long           how long a line is, out of the place of the first line feed
 --   line_fits                    a line ends within the text
 --   bad_odd, bad_torn, bad_is    a line with an odd number of digits, one with no line feed, and any other
-use Rattle.std.proofs.Common.{◌≡◌, refl, sym, ap, ◌∙◌, Bool, true, false, cond, not, ◌||◌, ◌&&◌, List, [], ◌∷◌, length, get_or, take, drop, ℕ, zero, suc, ◌+◌, ◌-◌, ◌%◌, ◌≤◌, nat_lt, Some, None, arith, length-drop}
+use Rattle.std.proofs.Common.{◌≡◌, refl, sym, ap, ◌∙◌, Bool, true, false, cond, not, ◌||◌, ◌&&◌, List, [], ◌∷◌, length, get_or, take, drop, ℕ, zero, suc, ◌+◌, ◌-◌, ◌%◌, ◌≤◌, nat_lt, Option, Some, None, arith, length-drop}
 use Rattle.std.specs.List.{list_all, position, position_or_len}
 use Rattle.std.specs.Option.{unwrap_or}
 use Rattle.std.proofs.Math.Dec.{eqb}
@@ -29,7 +30,7 @@ line_of_length (c ∷ t) = go (feed c) (line_of_length t)
     go false e = omega (arith, e)
 
 -- a line is the front of its list
-line_front : (t : List ℕ) → take (length (line_of t)) t ≡ line_of t
+pub line_front : (t : List ℕ) → take (length (line_of t)) t ≡ line_of t
 unfolding line_of
 line_front [] = refl
 line_front (c ∷ t) = go (feed c) (line_front t)
@@ -82,14 +83,18 @@ line_is t at =
     let whole : take (length t - at) rest ≡ rest = ap (λ n. take n rest) (sym (length-drop at t)) ∙ take-length rest in
     rw whole (found_or (position_or_len feed rest) (length rest) (prefix_len-le-length (λ c. not (feed c)) rest) ∙ sym (line_of_length rest))
 
+pub bad_odd : (t : List ℕ) (at : ℕ) → length (line_at t at) % 2 ≡ 1 → bad_line t at ≡ true
+unfolding bad_line
+bad_odd t at o = grind (arith, nat_tests)
+
+-- so long is it, where u is what `feed` gives or else the length
+pub line_long : (t : List ℕ) (at u : ℕ) (p : Option ℕ) → let rest = take (length t - at) (drop at t) in u ≡ unwrap_or p (length rest) → p ≡ position feed rest → u ≡ length (line_at t at)
+line_long t at u p e f = e ∙ rw f (line_is t at)
+
 module _ (t : List ℕ) (at : ℕ) (h : at ≤ length t) where
   pub line_fits : at + length (line_at t at) ≤ length t
   unfolding line_at
   line_fits = omega (arith, line_short (drop at t), length-drop at t)
-
-  pub bad_odd : length (line_at t at) % 2 ≡ 1 → bad_line t at ≡ true
-  unfolding bad_line
-  bad_odd o = grind (arith, nat_tests)
 
   pub bad_torn : at + length (line_at t at) ≡ length t → bad_line t at ≡ true
   unfolding bad_line line_at

@@ -3,7 +3,8 @@
 --
 --   flows_unique      the work list after k rounds is one
 --   answer_one        two results of a call with one answer are equal
---   number_unique     an outcome is known by its number; outcome_number_unique: and has one
+--   number_unique     an outcome is known by its number; outcome_number_unique, outcome_word_unique: and has one, and one word
+--   not_yet_unique    "not yet" after so many rounds is one decision
 --   call_unique       two results of a call are equal, and so are the work lists; on all inputs
 --   decided_verdict   what a call that is decided says
 --   wait_zero         "after "wait" these n × n places are 0"
@@ -38,8 +39,9 @@ use Rattle.reasons.proofs.NumberLaws.{reason_one}
 use Rattle.verdict.specs.Results.{Answer, answer_of}
 use Rattle.verdict.specs.Results.Answer.{Refused, Decided}
 use Rattle.checks.specs.Refusals.{Faultless}
-use Rattle.verdict.specs.Answers.{outcome_number, Verdict}
+use Rattle.verdict.specs.Answers.{outcome_number, not_yet, Verdict}
 use Rattle.verdict.specs.Answers.Verdict.{stays, itself, others, unfinished}
+use Rattle.verdict.specs.Words.{outcome_word}
 use Rattle.verdict.specs.Called.{Flows, Called}
 use Rattle.verdict.specs.Called.Called.{refuses, answers}
 use Rattle.checks.proofs.RefusalLaws.{refusal_unique, refusal_faultless, faultless_job, faultless_apart, faultless_positive}
@@ -99,6 +101,12 @@ number_unique a b e = sym (outcome_back a) ∙ (ap (λ (k : ℕ). get_or outcome
 
 pub outcome_number_unique : (o : Outcome) (a b : ℕ) → a ≡ outcome_number o → b ≡ outcome_number o → a ≡ b
 outcome_number_unique o a b p q = p ∙ sym q
+
+pub outcome_word_unique : (o : Outcome) (a b : List ℕ) → a ≡ outcome_word o → b ≡ outcome_word o → a ≡ b
+outcome_word_unique o a b p q = p ∙ sym q
+
+pub not_yet_unique : (k : ℕ) (a b : Decision) → a ≡ not_yet k → b ≡ not_yet k → a ≡ b
+not_yet_unique k a b p q = p ∙ sym q
 
 -- ---- the call
 

@@ -74,8 +74,8 @@ module _ (t : List ℕ) (at : ℕ) where
       byte_is : byte ≡ get_or t (at + k) 0
       byte_is = rw (take_rest t at, get_or-drop at t k 0) refl
 
-      pub reading_digit : (d : ℕ) → ◌≡◌ {A = Option ℕ} (Some d) (if is_digit byte then Some (digit byte) else None) → Reading t at ((v * 16 % 2 ^ 64 + d) % 2 ^ 64) (k + 1)
-      reading_digit d e =
+      pub reading_digit : (d w : ℕ) → ◌≡◌ {A = Option ℕ} (Some d) (if is_digit byte then Some (digit byte) else None) → w ≡ (v * 16 + d) % 2 ^ 64 → Reading t at w (k + 1)
+      reading_digit d w e q =
           let c = get_or t (at + k) 0 in
           let f = digit_some _ _ d (rw byte_is at e) in
           let g = front_digit t (at + k) v there f.0 in
@@ -84,7 +84,7 @@ module _ (t : List ℕ) (at : ℕ) where
             small = omega arith;
             worth =
                 rw (← add_assoc at k 1)
-                (R.worth ∙ ap (λ (x : ℕ). x % 2 ^ 64) g.0 ∙ grown_same (drop (at + k + 1) t) (v * 16 + digit c) ((v * 16 % 2 ^ 64 + d) % 2 ^ 64) (let w = f.1 in omega arith));
+                (R.worth ∙ ap (λ (x : ℕ). x % 2 ^ 64) g.0 ∙ grown_same (drop (at + k + 1) t) (v * 16 + digit c) w (let u = f.1 in omega arith));
             rest = rw (← add_assoc at k 1) (omega (arith, R.rest, g.1));
           }
 

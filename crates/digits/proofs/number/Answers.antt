@@ -9,4 +9,4 @@ pub overflow_add-value : goal.overflow_add-value
 overflow_add-value g c = let s = read_fits _ _ _ _ c.loop-k.invariant (omega arith) in omega arith
 
 pub loop-k-preserved : goal.loop-k-preserved
-loop-k-preserved g c = read_more _ _ _ _ _ c.loop-k.invariant (c.from.ensures ∙ c.byte_at.ensures) (omega arith)
+loop-k-preserved g c = read_more _ _ _ _ _ _ _ c.loop-k.invariant c.byte_at.ensures (omega arith) (omega arith) (omega arith)

@@ -11,6 +11,6 @@ pub loop-j-init : goal.loop-j-init
 loop-j-init c = tabled_none _ _ _
 
 pub loop-j-preserved : goal.loop-j-preserved
-loop-j-preserved c = tabled_more _ _ _ _ _ c.loop-j.invariant _ _ (omega arith) (omega arith) c.requires
-    (let room = table_room _ _ _ _ c.requires c.loop-j-test.true in
-    frame_is _ _ _ _ _ _ _ c.put_frame_states.ensures (ap (λ (b : Bor (List ℕ)). b.now) c.frame.ensures.text) c.frame.ensures.place (grind (arith, common_steps, room)))
+loop-j-preserved c = let room = table_room _ _ _ _ c.requires c.loop-j-test.true in
+    tabled_more _ _ _ _ _ c.loop-j.invariant _ _ (omega arith) (omega arith) room
+    (frame_is _ _ _ _ _ _ _ c.put_frame_states.ensures (ap (λ (b : Bor (List ℕ)). b.now) c.frame.ensures.text) c.frame.ensures.place (grind (arith, common_steps, room)))

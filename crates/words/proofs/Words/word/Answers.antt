@@ -4,7 +4,7 @@ use Rattle.words.proofs.Words.word.Goals as goal
 
 pub loop-c-preserved : goal.loop-c-preserved
 loop-c-preserved c =
-    record { text = c.loop-c.invariant.text; place = omega arith; read = rw c.from.ensures (reading_digit _ _ _ _ c.loop-c.invariant.read c.loop-c-test.true _ c.in-Some.ensures) }
+    record { text = c.loop-c.invariant.text; place = omega arith; read = rw c.from.ensures (reading_digit _ _ _ _ c.loop-c.invariant.read c.loop-c-test.true _ _ c.in-Some.ensures (omega arith)) }
 
 pub returns-after-loop-c-clause-value : goal.returns-after-loop-c-clause-value
 returns-after-loop-c-clause-value c = (reading_end _ _ _ _ c.loop-c.invariant.read c.loop-c-test.false).0
